@@ -1,0 +1,9 @@
+//! Parts of a graph: definitions, and the laws by which everything above counts loops, faces, pieces and components.
+//!
+//! A graph is a list of names, which are numbers, and a list of edges between names. The definitions stand in
+//! `specs/Parts.antt`; the laws are functions with empty bodies in `laws.rt`.
+#![tactic(auto)]
+
+mod laws;
+
+pub use laws::no_names;
