@@ -1,14 +1,14 @@
 -- Networks: nodes whose ends carry names, joined where two ends carry one name (this project's own; a link diagram
--- whose crossings are nodes is one, Lickorish, ch. 3).
+-- whose crossings are nodes is one, Lickorish, ch. 13).
 --
 -- A pairing of the places 0 to n-1 of a node's ends is the list of partners: place i is paired with `slice_index partner i`.
 --
---     IsPairing partner      each point has a partner, which is another point and names it back; 1,0,3,2 is one
+--     IsPairing partner      each place has a partner, which is another place and has it as its own; 1,0,3,2 is one
 --     Term                   a weight and a pairing: one way to connect a node's ends
 --     Node                   a group number, the names of the ends, and the terms. Only given orders read the group
 --     IsNode node            each term pairs all the ends of the node
---     Network                nodes, and a number of free loops
---     names_of nodes         the names of all ends, in order
+--     Network                nodes, and a number of free loops: the data alone, a network where `IsNetwork` holds
+--     names_of nodes         the names of all ends, in order, each as often as it stands
 --     times_in names x       how often the name stands in the list
 --     IsNetwork network      each node is one, and each name stands exactly twice
 use Rattle.std.specs.Prelude.{◌≡◌, ◌≢◌, ℕ, ◌<◌, ◌==◌, List, length, slice_index}
@@ -16,7 +16,7 @@ use Rattle.std.specs.List.{All, count_by, flat_map}
 use Rattle.std.specs.Set.{is_member}
 use Rattle.std.proofs.Common.{true}
 
--- Each point has a partner, which is another point and names it back.
+-- Each place has a partner, which is another place and has it as its own partner.
 pub record IsPairing (partner : List ℕ) : Type 0 where
   pub within : (i : ℕ) → i < length partner → slice_index partner i < length partner
   pub apart : (i : ℕ) → i < length partner → slice_index partner i ≢ i
@@ -27,6 +27,7 @@ pub record Term : Type 0 where
   pub weight : ℕ
   pub partner : List ℕ
 
+-- A place where strands meet: the names of its ends, and the ways to connect them.
 pub record Node : Type 0 where
   pub group : ℕ
   pub ends : List ℕ
@@ -36,6 +37,7 @@ pub record Node : Type 0 where
 abbrev pub IsNode : Node → Type 0
 IsNode node = All (λ term. IsPairing term.partner × (length term.partner ≡ length node.ends)) node.terms
 
+-- Nodes, and closed loops that no node meets.
 pub record Network : Type 0 where
   pub nodes : List Node
   pub free_loops : ℕ
