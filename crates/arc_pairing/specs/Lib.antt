@@ -1,0 +1,3 @@
+pub mod Pairings
+pub mod Counts
+pub mod Nodes

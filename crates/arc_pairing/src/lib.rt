@@ -1,0 +1,16 @@
+//! Pairings of points, and the networks that are made of them: terms, nodes and networks, each with its facts in its type.
+//!
+//! A pairing joins an even number of points, at most 24, two by two; a node is a list of named ends with weighted pairings
+//! of these; a network is a list of nodes in which every name stands exactly twice.
+#![tactic(auto)]
+
+mod fault;
+mod names;
+mod network;
+mod node;
+mod pairing;
+
+pub use fault::{NetworkFault, NodeFault, PairingFault};
+pub use network::Network;
+pub use node::{Node, Term};
+pub use pairing::Pairing;

@@ -1,0 +1,109 @@
+//! Pairings of at most 24 points.
+
+ghost use Rattle.std.specs.Prelude.{◌≡◌, ◌<◌, ◌≤◌, ◌↔◌, ℕ, length, slice_index, IsTrue, IsOk, IfOk};
+ghost use Rattle.state_sums.specs.Networks.{IsPairing};
+ghost use Rattle.arc_pairing.specs.Pairings.{IsPairedAt, IsFirstUnpaired, IsShortPairing};
+
+use crate::fault::PairingFault;
+use arrayvec::ArrayVec;
+use std::marker::Model;
+
+/// A pairing of at most 24 points, numbered from 0 (Lickorish, ch. 13).
+///
+/// Contracts see a pairing as the list of partners. Its type keeps that every point has a partner,
+/// which is another point and names it back.
+#[derive(Drop)]
+pub struct Pairing {
+    partners: ArrayVec<u8, 24>,
+}
+
+impl Model for Pairing {
+    ghost use Rattle.std.specs.Prelude.{ℕ, List};
+    ghost use Rattle.arc_pairing.specs.Pairings.{IsShortPairing};
+
+    ghost Value = { List ℕ };
+
+    ghost view = { λ pairing. pairing.partners.items };
+
+    ghost invariant = { λ pairing. IsShortPairing pairing.partners.items };
+}
+
+/// Whether the point has a partner that names it back.
+fn is_paired(partner: &[u8], at: usize) -> bool
+    requires { at < length partner.now }
+    ensures { IsTrue result ↔ IsPairedAt partner.now at }
+{
+    let other = usize::from(partner[at]);
+    other < partner.len() && other != at && usize::from(partner[other]) == at
+}
+
+impl Pairing {
+    /// The pairing in which point i has the partner `partner[i]`, for at most 24 points, from 0.
+    ///
+    /// `Long` holds how many points were given. `NotPairing` holds the first point whose partner is
+    /// out of range, is the point itself, or doesn't name it back: 2 for `[1, 0, 3]`. It takes no
+    /// memory.
+    pub fn new(partner: &[u8]) -> Result<Pairing, PairingFault>
+        ensures made { IfOk result (λ pairing. pairing ≡ partner.now) }
+        ensures succeeds { length partner.now ≤ 24 → IsPairing partner.now → IsOk result }
+
+        // The length is looked at before the points.
+        ensures long { (given : ℕ) → (result ≡ Err (PairingFault.Long given)) ↔ (24 < length partner.now) × (given ≡ length partner.now) }
+        ensures not_pairing { (at : ℕ) → result ≡ Err (PairingFault.NotPairing at) → IsFirstUnpaired partner.now at }
+    {
+        if partner.len() > 24 {
+            return Err(PairingFault::Long {
+                given: partner.len(),
+            });
+        }
+        for at in 0..partner.len() {
+            if !is_paired(partner, at) {
+                return Err(PairingFault::NotPairing { at: at as u8 });
+            }
+        }
+        let mut partners = ArrayVec::new();
+        for other in partner {
+            partners.push(*other);
+        }
+        Ok(Pairing { partners })
+    }
+
+    /// The number of points, at most 24. It takes no memory.
+    #[inline]
+    pub fn len(&self) -> u8
+        ensures value { result ≡ length self.now }
+        ensures pairing { IsShortPairing self.now }
+    {
+        self.partners.len() as u8
+    }
+
+    /// The partner of the point `at`, which is in range. It takes no memory.
+    #[inline]
+    pub fn partner(&self, at: u8) -> u8
+        requires { at < length self.now }
+        ensures { result ≡ slice_index self.now at }
+    {
+        self.partners.as_slice()[usize::from(at)]
+    }
+
+    /// The partners, by points. It takes no memory.
+    #[inline]
+    pub fn partners(&self) -> &[u8]
+        ensures value { result.now ≡ self.now }
+        ensures pairing { IsShortPairing self.now }
+    {
+        self.partners.as_slice()
+    }
+
+    /// An equal pairing. It takes no memory.
+    pub fn copy(&self) -> Pairing
+        ensures value { result ≡ self.now }
+        ensures pairing { IsShortPairing self.now }
+    {
+        let mut partners = ArrayVec::new();
+        for other in self.partners.as_slice() {
+            partners.push(*other);
+        }
+        Pairing { partners }
+    }
+}
