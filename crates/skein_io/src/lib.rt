@@ -1,0 +1,16 @@
+//! Sources and sinks of bytes: what a read takes, what a write appends, and how often either failed.
+//!
+//! `read_all` and `write_all` work over every source and sink. `MemorySource` and `MemorySink` tell
+//! their bytes and fail on the calls that they are told; `StdSource` and `StdSink` are the edge to the
+//! system's streams and tell none.
+#![tactic(auto)]
+
+mod reading;
+mod sink;
+mod source;
+mod writing;
+
+pub use reading::{ReadAll, read_all};
+pub use sink::Sink;
+pub use source::{Failed, Source};
+pub use writing::{Wrote, write_all};
