@@ -5,12 +5,21 @@
 //! system's streams and tell none.
 #![tactic(auto)]
 
+mod calls;
+mod memory_sink;
+mod memory_source;
 mod reading;
 mod sink;
 mod source;
+mod std_sink;
+mod std_source;
 mod writing;
 
+pub use memory_sink::MemorySink;
+pub use memory_source::MemorySource;
 pub use reading::{ReadAll, read_all};
 pub use sink::Sink;
 pub use source::{Failed, Source};
+pub use std_sink::StdSink;
+pub use std_source::StdSource;
 pub use writing::{Wrote, write_all};
