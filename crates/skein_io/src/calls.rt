@@ -40,7 +40,9 @@ impl Calls {
         ensures listed { IsErr result ↔ (IsListed self.old.fails.items self.old.made) }
         ensures begun { OnOk result (self.new ≡ record self.old { made = one_more self.old.made }) }
         ensures failed { OnErr result (self.new ≡ record self.old {
-            made = one_more self.old.made; faults = one_more self.old.faults }) }
+          made = one_more self.old.made;
+          faults = one_more self.old.faults;
+        }) }
     {
         self.made = self.made.saturating_add(1);
         if self.fails.contains(&self.made) {

@@ -23,3 +23,6 @@ pub use source::{Failed, Source};
 pub use std_sink::StdSink;
 pub use std_source::StdSource;
 pub use writing::{Wrote, write_all};
+
+#[cfg(test)]
+mod tests;

@@ -22,12 +22,13 @@ impl Model for MemorySink {
     ghost Value = { SinkInMemory };
 
     ghost view = { λ sink. record {
-        taken = sink.bytes.items;
-        room = sink.room;
-        piece = sink.piece;
-        fails = sink.calls.fails.items;
-        calls = sink.calls.made;
-        faults = sink.calls.faults } };
+      taken = sink.bytes.items;
+      room = sink.room;
+      piece = sink.piece;
+      fails = sink.calls.fails.items;
+      calls = sink.calls.made;
+      faults = sink.calls.faults;
+    } };
 
     ghost invariant = { λ sink. (length sink.bytes.items ≤ sink.room)
         × (sink.room ≤ vec_capacity sink.bytes) × (0 < sink.piece) };
@@ -37,10 +38,21 @@ impl MemorySink {
     /// An empty sink with room for `room` bytes, which is made here: `write` takes no memory. Each
     /// call takes at most `piece` bytes, which is at least 1. The calls whose numbers stand in
     /// `fails`, counted from 1, fail, and every call fails once `room` bytes were taken.
-    pub fn new(alloc: Global, room: usize, piece: usize, fails: &[u64]) -> Result<MemorySink, AllocError>
+    pub fn new(
+        alloc: Global,
+        room: usize,
+        piece: usize,
+        fails: &[u64],
+    ) -> Result<MemorySink, AllocError>
         requires { 0 < piece }
         ensures { IfOk result (λ sink. sink ≡ record {
-            taken = []; room = room; piece = piece; fails = fails.now; calls = 0; faults = 0 }) }
+          taken = [];
+          room = room;
+          piece = piece;
+          fails = fails.now;
+          calls = 0;
+          faults = 0;
+        }) }
     {
         Ok(MemorySink {
             bytes: Vec::with_capacity(alloc, room)?,
@@ -76,14 +88,18 @@ impl Sink for MemorySink {
         ensures listed { IsErr result
             ↔ ((IsListed self.old.fails self.old.calls) ⊎ (length self.old.taken ≡ self.old.room)) }
         ensures failed { OnErr result (self.new ≡ record self.old {
-            calls = one_more self.old.calls; faults = one_more self.old.faults }) }
+          calls = one_more self.old.calls;
+          faults = one_more self.old.faults;
+        }) }
 
         // The others take a piece, or what there is or what has room.
         ensures count { IfOk result (λ count. count
             ≡ min self.old.piece (min (length piece.now) (self.old.room - length self.old.taken))) }
         ensures some { IfOk result (λ count. 0 < count) }
         ensures given { IfOk result (λ count. self.new ≡ record self.old {
-            taken = self.old.taken ++ take count piece.now; calls = one_more self.old.calls }) }
+          taken = self.old.taken ++ take count piece.now;
+          calls = one_more self.old.calls;
+        }) }
 
         ensures never_falls { self.old.faults ≤ self.new.faults }
     {

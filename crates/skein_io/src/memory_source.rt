@@ -21,11 +21,12 @@ impl Model for MemorySource {
     ghost Value = { SourceInMemory };
 
     ghost view = { λ source. record {
-        left = drop source.at source.bytes.items;
-        piece = source.piece;
-        fails = source.calls.fails.items;
-        calls = source.calls.made;
-        faults = source.calls.faults } };
+      left = drop source.at source.bytes.items;
+      piece = source.piece;
+      fails = source.calls.fails.items;
+      calls = source.calls.made;
+      faults = source.calls.faults;
+    } };
 
     ghost invariant = { λ source. (source.at ≤ length source.bytes.items) × (0 < source.piece) };
 }
@@ -33,10 +34,20 @@ impl Model for MemorySource {
 impl MemorySource {
     /// A source of `bytes`. Each call gives at most `piece` of them, which is at least 1. The calls
     /// whose numbers stand in `fails`, counted from 1, fail.
-    pub fn new(alloc: Global, bytes: &[u8], piece: usize, fails: &[u64]) -> Result<MemorySource, AllocError>
+    pub fn new(
+        alloc: Global,
+        bytes: &[u8],
+        piece: usize,
+        fails: &[u64],
+    ) -> Result<MemorySource, AllocError>
         requires { 0 < piece }
         ensures { IfOk result (λ source. source ≡ record {
-            left = bytes.now; piece = piece; fails = fails.now; calls = 0; faults = 0 }) }
+          left = bytes.now;
+          piece = piece;
+          fails = fails.now;
+          calls = 0;
+          faults = 0;
+        }) }
     {
         Ok(MemorySource {
             bytes: bytes.to_vec(alloc)?,
@@ -64,7 +75,9 @@ impl Source for MemorySource {
         // The listed calls fail, and no other.
         ensures listed { IsErr result ↔ (IsListed self.old.fails self.old.calls) }
         ensures failed { OnErr result (self.new ≡ record self.old {
-            calls = one_more self.old.calls; faults = one_more self.old.faults }) }
+          calls = one_more self.old.calls;
+          faults = one_more self.old.faults;
+        }) }
 
         // The others give a piece, or what fits or is left.
         ensures count { IfOk result (λ count.
@@ -72,7 +85,9 @@ impl Source for MemorySource {
         ensures end { IfOk result (λ count. (count ≡ 0) ↔ (self.old.left ≡ [])) }
         ensures bytes { IfOk result (λ count. take count into.new ≡ take count self.old.left) }
         ensures given { IfOk result (λ count. self.new ≡ record self.old {
-            left = drop count self.old.left; calls = one_more self.old.calls }) }
+          left = drop count self.old.left;
+          calls = one_more self.old.calls;
+        }) }
 
         ensures never_falls { self.old.faults ≤ self.new.faults }
     {

@@ -1,4 +1,6 @@
-ghost use Rattle.std.specs.Prelude.{◌≡◌, None};
+ghost use Rattle.std.specs.Prelude.{◌≡◌, ◌<◌, ◌≤◌, length, None, OnOk, OnErr, IfOk};
+ghost use Rattle.std.specs.Io.KnownBytes.{WriteAppends};
+ghost use Rattle.skein_io.specs.Faults.{one_more};
 
 use crate::sink::Sink;
 use crate::source::Failed;
@@ -28,7 +30,17 @@ impl<W: Write> Sink for StdSink<W> {
 
     ghost faults = { λ sink. sink.faults };
 
-    fn write(&mut self, piece: &[u8]) -> Result<usize, Failed> {
+    fn write(&mut self, piece: &[u8]) -> Result<usize, Failed>
+        requires { 0 < length piece.now }
+        ensures some { IfOk result (λ count. 0 < count) }
+        ensures within { IfOk result (λ count. count ≤ length piece.now) }
+        // The piece is handed on to the writer. Only a writer in memory says what it holds.
+        ensures bytes { WriteAppends (W.contents self.old.writer) (W.contents self.new.writer)
+            result piece.now }
+        ensures no_fault { OnOk result (self.new.faults ≡ self.old.faults) }
+        ensures fault { OnErr result (self.new.faults ≡ one_more self.old.faults) }
+        ensures never_falls { self.old.faults ≤ self.new.faults }
+    {
         match self.writer.write(piece) {
             Ok(count) if count > 0 => Ok(count),
             Ok(_) | Err(_) => {

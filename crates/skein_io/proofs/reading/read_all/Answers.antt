@@ -1,6 +1,6 @@
-use Rattle.std.proofs.Common.{◌≡◌, ◌≤◌, ◌<◌, ◌+◌, ◌-◌, ◌++◌, ℕ, List, length, take, min, Result, Ok, Err, OnErr, ◌∙◌, arith, length-append, length-take-le}
+use Rattle.std.proofs.Common.{◌≡◌, ◌≤◌, ◌+◌, ◌++◌, ℕ, List, length, take, Result, Ok, Err, OnErr, arith, length-take-le}
 use Rattle.std.proofs.lemmas.Grind.{common_steps}
-use Rattle.skein_io.specs.Source.{Takes, IsSuffix}
+use Rattle.skein_io.specs.Source.{IsSuffix}
 use Rattle.skein_io.proofs.SourceLemmas.{Takes-more}
 use Rattle.skein_io.proofs.reading.read_all.Goals as goal
 
