@@ -1,0 +1,4 @@
+pub mod FaultsLemmas
+pub mod SourceLemmas
+pub mod SinkLemmas
+mod Examples
