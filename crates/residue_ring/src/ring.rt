@@ -1,7 +1,7 @@
 // The ring of residues modulo m: sums, differences, negatives, products, powers and orders.
-ghost use Rattle.std.specs.Prelude.{◌≡◌, ◌<◌, ◌≤◌, ◌^◌, ◌↔◌, ℕ, pos, neg_ℤ, ◌+ℤ◌, ◌-ℤ◌, ◌*ℤ◌, IfOk, IfSome, IsOk, IsNone};
+ghost use Rattle.std.specs.Prelude.{◌≡◌, ◌<◌, ◌≤◌, ◌^◌, ◌↔◌, ℕ, pos, neg_ℤ, ◌+ℤ◌, ◌-ℤ◌, ◌*ℤ◌, IfOk, IsOk};
 ghost use Rattle.ring_identities.specs.Residues.{residue};
-ghost use Rattle.ring_identities.specs.Powers.{power, IsOrder, IsUnity};
+ghost use Rattle.ring_identities.specs.Powers.{power, IsOrderUpTo};
 
 use std::marker::Model;
 
@@ -125,9 +125,7 @@ impl Ring {
     /// `None` comes exactly where there is no such t.
     pub fn order(&self, x: u64, at_most: u32) -> Option<u32>
         requires { x < self.now }
-        ensures order { IfSome result (λ t. IsOrder self.now x t) }
-        ensures in_range { IfSome result (λ t. t ≤ at_most) }
-        ensures none { IsNone result ↔ ((t : ℕ) → 1 ≤ t → t ≤ at_most → ¬ IsUnity self.now x t) }
+        ensures { IsOrderUpTo self.now x at_most result }
     {
         let mut value = self.one();
         for t in 1..=at_most {

@@ -4,7 +4,8 @@
 --     sign n               (-1)^n
 --     IsUnity m x t        x^t is 1 modulo m
 --     IsOrder m x t        t is the least number of at least 1 with x^t = 1 modulo m: 20 for x = 2 and m = 41
-use Rattle.std.specs.Prelude.{◌≡◌, ℕ, zero, suc, ◌<◌, ◌≤◌, ℤ, pos, ◌*ℤ◌, neg_ℤ}
+--     IsOrderUpTo m x n o  o is that number where it is at most n, and None where it isn't
+use Rattle.std.specs.Prelude.{◌≡◌, ℕ, zero, suc, ◌<◌, ◌≤◌, ℤ, pos, ◌*ℤ◌, neg_ℤ, Option, MatchOption}
 use Rattle.ring_identities.specs.Residues.{residue}
 
 -- z to the power n
@@ -25,3 +26,8 @@ pub record IsOrder (m x t : ℕ) : Type 0 where
   pub positive : 1 ≤ t
   pub unity : IsUnity m x t
   pub least : (s : ℕ) → 1 ≤ s → s < t → ¬ IsUnity m x s
+
+-- the least t from 1 to limit with x^t = 1 modulo m, or None where there is none
+abbrev pub IsOrderUpTo : ℕ → ℕ → ℕ → Option ℕ → Type 0
+IsOrderUpTo m x limit found =
+    MatchOption found ((t : ℕ) → 1 ≤ t → t ≤ limit → ¬ IsUnity m x t) (λ t. (t ≤ limit) × IsOrder m x t)

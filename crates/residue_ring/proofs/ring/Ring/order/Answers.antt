@@ -1,5 +1,5 @@
 -- A power that is 1 ends the walk; each one before it was not.
-use Rattle.std.proofs.Common.{pos, refl, sym, ap, ◌∙◌, arith}
+use Rattle.std.proofs.Common.{pos, sym, ap, ◌∙◌, arith}
 use Rattle.ring_identities.specs.Residues.{residue}
 use Rattle.ring_identities.specs.Powers.{power}
 use Rattle.residue_ring.proofs.PowerSteps.{power_first, power_next, none_next}
@@ -12,19 +12,16 @@ loop-t-init c = record {
   none_before = λ s positive within. absurd (omega arith);
 }
 
-pub returns-then-value-eq1-clause-order : goal.returns-then-value-eq1-clause-order
-returns-then-value-eq1-clause-order c =
-    let is_power = power_next c.args.self.now c.args.x c.loop-t.value c.mul-value.result c.loop-t.t (omega arith) c.loop-t.auto.t c.loop-t.invariant.value_is c.mul-value.ensures.product in
-    record {
-      positive = c.loop-t.auto.t;
-      unity = sym is_power ∙ c.if-value-eq1.true;
-      least = c.loop-t.invariant.none_before;
-    }
-
-pub returns-then-value-eq1-clause-none : goal.returns-then-value-eq1-clause-none
-returns-then-value-eq1-clause-none c =
-    let is_power = power_next c.args.self.now c.args.x c.loop-t.value c.mul-value.result c.loop-t.t (omega arith) c.loop-t.auto.t c.loop-t.invariant.value_is c.mul-value.ensures.product in
-    ((λ e. absurd (cc)), (λ none. absurd (none c.loop-t.t c.loop-t.auto.t c.loop-t-test.true (sym is_power ∙ c.if-value-eq1.true))))
+pub returns-then-value-eq1 : goal.returns-then-value-eq1
+returns-then-value-eq1 c =
+    let is_power = power_next c.args.self.now c.args.x c.loop-t.value c.mul-value.result c.loop-t.t (omega arith) c.loop-t.auto.t c.loop-t.invariant.value_is c.mul-value.ensures.product in (
+      c.loop-t-test.true,
+      record {
+        positive = c.loop-t.auto.t;
+        unity = sym is_power ∙ c.if-value-eq1.true;
+        least = c.loop-t.invariant.none_before;
+      },
+    )
 
 pub loop-t-preserved : goal.loop-t-preserved
 loop-t-preserved c =
@@ -35,8 +32,8 @@ loop-t-preserved c =
       none_before = none_next c.args.self.now c.args.x c.mul-value.result c.loop-t.t is_power c.if-value-eq1.false c.loop-t.invariant.none_before;
     }
 
-pub returns-else-value-eq1-clause-none : goal.returns-else-value-eq1-clause-none
-returns-else-value-eq1-clause-none c =
+pub returns-else-value-eq1 : goal.returns-else-value-eq1
+returns-else-value-eq1 c =
     let is_power = power_next c.args.self.now c.args.x c.loop-t.value c.mul-value.result c.loop-t.t (omega arith) c.loop-t.auto.t c.loop-t.invariant.value_is c.mul-value.ensures.product in
     let none = none_next c.args.self.now c.args.x c.mul-value.result c.loop-t.t is_power c.if-value-eq1.false c.loop-t.invariant.none_before in
-    ((λ e t positive within. none t positive (omega arith)), (λ all. refl))
+    λ t positive within. none t positive (omega arith)
