@@ -1,0 +1,139 @@
+// The ring of residues modulo m: sums, differences, negatives, products, powers and orders.
+ghost use Rattle.std.specs.Prelude.{◌≡◌, ◌<◌, ◌≤◌, ◌^◌, ◌↔◌, ℕ, pos, neg_ℤ, ◌+ℤ◌, ◌-ℤ◌, ◌*ℤ◌, IfOk, IsOk};
+ghost use Rattle.ring_identities.specs.Residues.{residue};
+ghost use Rattle.ring_identities.specs.Powers.{power, IsOrderUpTo};
+
+use std::marker::Model;
+
+/// The modulus is below 2 or at least 2^62.
+#[derive(Clone, Copy, Debug, PartialEq, Eq)]
+pub struct OutOfRange;
+
+/// The residues modulo m, for an m from 2 to 2^62 - 1. A contract sees a ring as its modulus.
+///
+/// A residue that is handed in is below m, and so is each that is given back.
+#[derive(Clone, Copy, Debug, PartialEq, Eq)]
+pub struct Ring {
+    modulus: u64,
+}
+
+impl Model for Ring {
+    ghost Value = { ℕ };
+
+    ghost view = { λ ring. ring.modulus };
+
+    ghost invariant = { λ ring. (2 ≤ ring.modulus) × (ring.modulus < 2 ^ 62) };
+
+    ghost inverse = { λ m. record { modulus = m } };
+}
+
+impl Ring {
+    /// The ring of residues modulo m.
+    ///
+    /// `OutOfRange` comes exactly where m is below 2 or at least 2^62.
+    pub fn new(m: u64) -> Result<Self, OutOfRange>
+        ensures made { IfOk result (λ ring. ring ≡ m) }
+        ensures in_range { IsOk result ↔ ((2 ≤ m) × (m < 2 ^ 62)) }
+    {
+        if m < 2 || m >= 1 << 62 {
+            return Err(OutOfRange);
+        }
+        Ok(Ring { modulus: m })
+    }
+
+    /// The modulus m.
+    pub fn modulus(&self) -> u64
+        ensures modulus { result ≡ self.now }
+        ensures at_least_two { 2 ≤ result }
+        ensures below_limit { result < 2 ^ 62 }
+    {
+        self.modulus
+    }
+
+    // The residue of 1, which stands below m.
+    fn one(&self) -> u64
+        ensures one { result ≡ 1 }
+        ensures below { result < self.now }
+    {
+        let _ = &self.modulus;
+        1
+    }
+
+    /// The residue of x + y.
+    pub fn add(&self, x: u64, y: u64) -> u64
+        requires x_below { x < self.now }
+        requires y_below { y < self.now }
+        ensures sum { result ≡ residue self.now (pos x +ℤ pos y) }
+        ensures below { result < self.now }
+    {
+        let m = self.modulus;
+        let sum = x + y;
+        if sum < m { sum } else { sum - m }
+    }
+
+    /// The residue of x - y.
+    pub fn sub(&self, x: u64, y: u64) -> u64
+        requires x_below { x < self.now }
+        requires y_below { y < self.now }
+        ensures difference { result ≡ residue self.now (pos x -ℤ pos y) }
+        ensures below { result < self.now }
+    {
+        let m = self.modulus;
+        if x < y { x + m - y } else { x - y }
+    }
+
+    /// The residue of -x.
+    pub fn neg(&self, x: u64) -> u64
+        requires { x < self.now }
+        ensures negative { result ≡ residue self.now (neg_ℤ (pos x)) }
+        ensures below { result < self.now }
+    {
+        if x == 0 { 0 } else { self.modulus - x }
+    }
+
+    /// The residue of x y.
+    pub fn mul(&self, x: u64, y: u64) -> u64
+        requires x_below { x < self.now }
+        requires y_below { y < self.now }
+        ensures product { result ≡ residue self.now (pos x *ℤ pos y) }
+        ensures below { result < self.now }
+    {
+        (u128::from(x) * u128::from(y) % u128::from(self.modulus)) as u64
+    }
+
+    /// The residue of `base` to the power `e`; with exponent 0 it is 1.
+    pub fn pow(&self, base: u64, e: u64) -> u64
+        requires { base < self.now }
+        ensures power { result ≡ residue self.now (power (pos base) e) }
+        ensures below { result < self.now }
+    {
+        let mut product = self.one();
+        let mut square = base;
+        let mut left = e;
+        while left > 0 {
+            if left % 2 == 1 {
+                product = self.mul(product, square);
+            }
+            square = self.mul(square, square);
+            left /= 2;
+        }
+        product
+    }
+
+    /// The least t from 1 to `at_most` with x^t = 1 modulo m: 20 for x = 2 and m = 41.
+    ///
+    /// `None` comes exactly where there is no such t.
+    pub fn order(&self, x: u64, at_most: u32) -> Option<u32>
+        requires { x < self.now }
+        ensures { IsOrderUpTo self.now x at_most result }
+    {
+        let mut value = self.one();
+        for t in 1..=at_most {
+            value = self.mul(value, x);
+            if value == 1 {
+                return Some(t);
+            }
+        }
+        None
+    }
+}

@@ -1,0 +1,33 @@
+-- Powers of whole numbers, and the order of a residue. (Standard; the words are this project's own.)
+--
+--     power z n            z to the power n; with exponent 0 it is 1
+--     sign n               (-1)^n
+--     IsUnity m x t        x^t is 1 modulo m
+--     IsOrder m x t        t is the least number of at least 1 with x^t = 1 modulo m: 20 for x = 2 and m = 41
+--     IsOrderUpTo m x n o  o is that number where it is at most n, and None where it isn't
+use Rattle.std.specs.Prelude.{◌≡◌, ℕ, zero, suc, ◌<◌, ◌≤◌, ℤ, pos, ◌*ℤ◌, neg_ℤ, Option, MatchOption}
+use Rattle.ring_identities.specs.Residues.{residue}
+
+-- z to the power n
+unfoldable pub power : ℤ → ℕ → ℤ
+power z zero = pos 1
+power z (suc n) = z *ℤ power z n
+
+-- (-1)^n
+abbrev pub sign : ℕ → ℤ
+sign n = power (neg_ℤ (pos 1)) n
+
+-- x to the power t is 1 modulo m
+abbrev pub IsUnity : ℕ → ℕ → ℕ → Type 0
+IsUnity m x t = residue m (power (pos x) t) ≡ 1
+
+-- t is the least number of at least 1 with x^t = 1 modulo m
+pub record IsOrder (m x t : ℕ) : Type 0 where
+  pub positive : 1 ≤ t
+  pub unity : IsUnity m x t
+  pub least : (s : ℕ) → 1 ≤ s → s < t → ¬ IsUnity m x s
+
+-- the least t from 1 to limit with x^t = 1 modulo m, or None where there is none
+abbrev pub IsOrderUpTo : ℕ → ℕ → ℕ → Option ℕ → Type 0
+IsOrderUpTo m x limit found =
+    MatchOption found ((t : ℕ) → 1 ≤ t → t ≤ limit → ¬ IsUnity m x t) (λ t. (t ≤ limit) × IsOrder m x t)
