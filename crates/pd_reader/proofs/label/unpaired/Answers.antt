@@ -1,0 +1,27 @@
+use Rattle.std.proofs.Common.{◌≡◌, refl, sym, ap, ◌∙◌, ◌++◌, List, ℕ, [], ◌∷◌, not, true, false, take, get_or, eq-eqb, ne_eqb, Option, Some, None}
+use Rattle.std.proofs.lemmas.List.{take_more}
+use Rattle.pd_reader.specs.Diagrams.{times}
+use Rattle.pd_reader.proofs.Least.{is_unpaired, least_among, least_among-more, least_among-same, lesser}
+use Rattle.pd_reader.proofs.label.unpaired.Goals as goal
+use Rattle.pd_reader.proofs.label.unpaired.Goals.{then-times-ne2+in-Some, then-times-ne2+in-None, else-times-ne2}
+
+pub loop-label-preserved : goal.loop-label-preserved
+loop-label-preserved c =
+    let ls = c.args.labels.now in
+    let i = c.loop-label.label-index in
+    let front = take i ls in
+    let n = get_or ls i 0 in
+    let more = take_more ls i 0 c.loop-label-test.true in
+    elim c.if-times-ne2.branch [
+      | then-times-ne2+in-Some w ↦
+          let odd : is_unpaired ls n ≡ true = rw (ne_eqb (times n ls) 2 (λ e. w.if-times-ne2.true (c.times.ensures ∙ e))) refl in
+          let before : least_among ls front ≡ Some w.in-Some.other = sym c.loop-label.invariant ∙ w.in-Some.is in
+          w.least-is ∙ (ap (λ (x : ℕ). Some x) w.min.ensures ∙ sym (ap (least_among ls) more ∙ (least_among-more ls front n odd ∙ ap (λ (x : Option ℕ). Some (lesser x n)) before)))
+      | then-times-ne2+in-None w ↦
+          let odd : is_unpaired ls n ≡ true = rw (ne_eqb (times n ls) 2 (λ e. w.if-times-ne2.true (c.times.ensures ∙ e))) refl in
+          let before : least_among ls front ≡ None = sym c.loop-label.invariant ∙ w.in-None.is in
+          w.least-is ∙ sym (ap (least_among ls) more ∙ (least_among-more ls front n odd ∙ ap (λ (x : Option ℕ). Some (lesser x n)) before))
+      | else-times-ne2 w ↦
+          let even : is_unpaired ls n ≡ false = rw (eq-eqb (times n ls) 2 (sym c.times.ensures ∙ w.if-times-ne2.false)) refl in
+          w.least-is ∙ (c.loop-label.invariant ∙ sym (ap (least_among ls) more ∙ least_among-same ls front n even))
+    ]

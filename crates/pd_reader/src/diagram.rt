@@ -1,0 +1,79 @@
+//! Diagrams: items in which each label stands twice.
+
+ghost use Rattle.std.specs.Prelude.{◌≡◌, ◌⊎◌, ◌<◌, ◌≤◌, None, Some, length, IfOk, IfErr, OnOk, List};
+ghost use Rattle.std.specs.List.{AllByRecursion};
+ghost use Rattle.pd_reader.specs.Items.{item_labels};
+ghost use Rattle.pd_reader.specs.Diagrams.{IsDiagram, IsLabel, labels, refusal};
+
+use crate::fault::DiagramFault;
+use crate::item::{Item, Labelled};
+use crate::label::{labels, unpaired};
+use std::alloc::Global;
+use std::marker::Model;
+
+/// A link diagram as a list of at most 256 items, in which each label is 1 to 2,000,000 and stands
+/// twice. A loop counts as two standings of its label.
+///
+/// Contracts see a diagram as the list of its items. `IsDiagram` says what each such list keeps.
+#[derive(Drop, Debug)]
+pub struct Diagram {
+    items: Vec<Item>,
+}
+
+impl Model for Diagram {
+    ghost use Rattle.std.specs.Prelude.{List};
+    ghost use Rattle.pd_reader.specs.declared.item.Item.{Item};
+
+    ghost Value = { List Item };
+
+    ghost use Rattle.pd_reader.specs.Diagrams.{IsDiagram};
+
+    ghost view = { λ diagram. diagram.items.items };
+
+    ghost invariant = { λ diagram. IsDiagram diagram.items.items };
+}
+
+/// The most items of a diagram or a net.
+const MOST_ITEMS: usize = 256;
+
+/// The first reason why the items are no diagram, of labels that are in range.
+fn check_items<I: Labelled>(alloc: Global, items: &[I]) -> Result<(), DiagramFault>
+    ensures sized { OnOk result (AllByRecursion I.has_size items.now) }
+    ensures ok { OnOk result (refusal I.labels items.now ≡ None) }
+    ensures err { IfErr result (λ fault. (fault ≡ DiagramFault.Memory) ⊎ (refusal I.labels items.now ≡ Some fault)) }
+{
+    if items.len() > MOST_ITEMS {
+        return Err(DiagramFault::TooMany { limit: 256 });
+    }
+    let labels = labels(alloc, items)?;
+    match unpaired(&labels) {
+        Some((label, count)) => Err(DiagramFault::Label { label, count: count as u32 }),
+        None => Ok(()),
+    }
+}
+
+impl Diagram {
+    /// The diagram with these items.
+    ///
+    /// `TooMany` holds 256 and comes past 256 items. `Label` holds the least label that doesn't stand
+    /// twice, and how often it stands: 1 and 3 for `X[1,1,1,2]`. `Memory` is want of memory.
+    pub fn new(alloc: Global, items: &[Item]) -> Result<Diagram, DiagramFault>
+        requires { AllByRecursion IsLabel (labels item_labels items.now) }
+        ensures made { IfOk result (λ diagram. diagram ≡ items.now) }
+        ensures ok { OnOk result (refusal item_labels items.now ≡ None) }
+        // A refusal names the first reason, but where memory runs out.
+        ensures refused { IfErr result (λ fault. (fault ≡ DiagramFault.Memory) ⊎ (refusal item_labels items.now ≡ Some fault)) }
+    {
+        check_items(alloc, items)?;
+        let items = Vec::from_slice(alloc, items)?;
+        Ok(Diagram { items })
+    }
+
+    /// The items, in the order in which they were given.
+    pub fn items(&self) -> &[Item]
+        ensures items { result.now ≡ self.now }
+        ensures diagram { IsDiagram self.now }
+    {
+        &self.items
+    }
+}

@@ -1,0 +1,13 @@
+pub mod ReachLemmas
+pub mod Whole
+pub mod Scans
+pub mod Words
+pub mod Numbers
+pub mod Numerals
+pub mod Places
+pub mod Marks
+pub mod Arguments
+pub mod Choice
+pub mod Chain
+pub mod Lists
+pub mod Slots

@@ -1,0 +1,4 @@
+pub mod Tokens
+pub mod Shapes
+pub mod Reach
+pub mod Readers
