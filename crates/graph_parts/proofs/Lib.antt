@@ -1,4 +1,6 @@
 pub mod Counting
+pub mod Distinct
+pub mod Ends
 pub mod Walks
 pub mod Rounds
 pub mod Representatives
