@@ -1,1 +1,8 @@
+pub mod Counting
+pub mod Distinct
+pub mod Ends
+pub mod Walks
+pub mod Rounds
+pub mod Representatives
+pub mod LeastNames
 mod Examples

@@ -1,1 +1,4 @@
+pub mod Sums
+pub mod StateEdges
+pub mod StateSums
 mod Examples

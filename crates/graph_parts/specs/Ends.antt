@@ -1,0 +1,15 @@
+-- The ends of edges.
+--
+--     EndsAre inside edges       both ends of each edge pass the test
+--     AreAmong names edges       both ends of each edge are among the names
+use Rattle.std.specs.Prelude.{◌≡◌, ℕ, ◌==◌, Bool, true, List, [], ◌∷◌}
+use Rattle.std.specs.Set.{is_member}
+
+-- Both ends of each edge pass the test.
+abbrev pub EndsAre : (ℕ → Bool) → List (ℕ × ℕ) → Type 0
+EndsAre inside [] = Unit {0}
+EndsAre inside (edge ∷ edges) = (inside edge.0 ≡ true) × (inside edge.1 ≡ true) × EndsAre inside edges
+
+-- Both ends of each edge are among the names.
+abbrev pub AreAmong : List ℕ → List (ℕ × ℕ) → Type 0
+AreAmong names edges = EndsAre (is_member ◌==◌ names) edges
