@@ -37,7 +37,7 @@ impl Model for Network {
 const MOST_NODES: usize = 65_536;
 
 /// The names of all ends, in order.
-fn names(alloc: Global, nodes: &[Node]) -> Result<Vec<u32>, AllocError>
+fn all_names(alloc: Global, nodes: &[Node]) -> Result<Vec<u32>, AllocError>
     ensures value { IfOk result (λ names. names.items ≡ names_of nodes.now) }
     ensures nodes { OnOk result (All IsShortNode nodes.now) }
     ensures few { IfOk result (λ names. length names.items ≤ 24 * length nodes.now) }
@@ -57,7 +57,7 @@ fn check_names(alloc: Global, nodes: &[Node]) -> Result<(), NetworkFault>
     ensures name { (name count : ℕ) → result ≡ Err (NetworkFault.Name name count) → IsLeastMiscount (names_of nodes.now) name count }
     ensures no_limit { (limit : ℕ) → result ≢ Err (NetworkFault.TooMany limit) }
 {
-    let mut names = names(alloc, nodes)?;
+    let mut names = all_names(alloc, nodes)?;
     names.sort_unstable();
     match least_miscount(&names) {
         Some((name, count)) => Err(NetworkFault::Name {
@@ -96,6 +96,15 @@ impl Network {
         ensures network { IsSmallNetwork self.now }
     {
         &self.nodes
+    }
+
+    /// The names of all ends, in order, each as often as it stands.
+    pub fn names(&self, alloc: Global) -> Result<Vec<u32>, AllocError>
+        ensures value { IfOk result (λ names. names.items ≡ names_of self.now.nodes) }
+        ensures nodes { OnOk result (All IsShortNode self.now.nodes) }
+        ensures few { IfOk result (λ names. length names.items ≤ 24 * length self.now.nodes) }
+    {
+        all_names(alloc, &self.nodes)
     }
 
     /// The number of free loops, at most 256. It takes no memory.

@@ -11,6 +11,7 @@
 --     names_of nodes         the names of all ends, in order, each as often as it stands
 --     times_in names x       how often the name stands in the list
 --     IsNetwork network      each node is one, and each name stands exactly twice
+--     WeightsBelow m nodes   each weight is below m
 use Rattle.std.specs.Prelude.{◌≡◌, ◌≢◌, ℕ, ◌<◌, ◌==◌, List, length, slice_index}
 use Rattle.std.specs.List.{All, count_by, flat_map}
 use Rattle.std.specs.Set.{is_member}
@@ -54,3 +55,7 @@ times_in names x = count_by (λ y. x == y) names
 pub record IsNetwork (network : Network) : Type 0 where
   pub nodes : All IsNode network.nodes
   pub twice : (x : ℕ) → is_member ◌==◌ (names_of network.nodes) x ≡ true → times_in (names_of network.nodes) x ≡ 2
+
+-- Each weight is below m.
+abbrev pub WeightsBelow : ℕ → List Node → Type 0
+WeightsBelow m nodes = All (λ node. All (λ term. term.weight < m) node.terms) nodes

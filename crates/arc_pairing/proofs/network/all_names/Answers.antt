@@ -3,7 +3,7 @@ use Rattle.std.proofs.lemmas.Grind.{common_steps}
 use Rattle.state_sums.specs.Networks.{names_of}
 use Rattle.arc_pairing.specs.Nodes.{IsShortNode}
 use Rattle.arc_pairing.proofs.Steps.{all_read}
-use Rattle.arc_pairing.proofs.network.names.Goals as goal
+use Rattle.arc_pairing.proofs.network.all_names.Goals as goal
 
 pub loop-node-preserved : goal.loop-node-preserved
 loop-node-preserved c =

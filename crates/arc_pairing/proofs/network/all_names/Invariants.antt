@@ -1,7 +1,7 @@
 use Rattle.std.proofs.Common.{◌≡◌, ◌*◌, ◌≤◌, take, length, All}
 use Rattle.state_sums.specs.Networks.{names_of}
 use Rattle.arc_pairing.specs.Nodes.{IsShortNode}
-use Rattle.arc_pairing.proofs.network.names.Given as goal
+use Rattle.arc_pairing.proofs.network.all_names.Given as goal
 
 abbrev pub invariant-loop-node : goal.invariant-loop-node
 invariant-loop-node l =

@@ -1,0 +1,3 @@
+pub mod Labelled
+pub mod Placed
+pub mod Recursion

@@ -1,0 +1,6 @@
+use Rattle.std.proofs.Common.{◌≡◌, ◌++◌, map, take, drop}
+use Rattle.graph_parts.specs.Labels.{turned}
+use Rattle.plain_sum.proofs.parts.turn.Given as goal
+
+abbrev pub invariant-loop-label : goal.invariant-loop-label
+invariant-loop-label l = l.labels ≡ map (turned l.from l.to) (take l.label-index l.initial.labels) ++ drop l.label-index l.initial.labels
