@@ -5,3 +5,5 @@ pub mod Inverses
 pub mod Identities
 pub mod Modulo
 pub mod PowerLemmas
+pub mod SignedPowers
+pub mod Unities
