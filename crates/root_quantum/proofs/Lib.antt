@@ -1,1 +1,2 @@
 mod QuantumSteps
+mod TwistSteps
