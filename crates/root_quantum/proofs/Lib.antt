@@ -1,2 +1,3 @@
 mod QuantumSteps
 mod TwistSteps
+pub mod LawProofs
