@@ -7,3 +7,4 @@ pub mod Modulo
 pub mod PowerLemmas
 pub mod SignedPowers
 pub mod Unities
+pub mod LawProofs

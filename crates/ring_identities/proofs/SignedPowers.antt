@@ -7,7 +7,7 @@ use Rattle.std.proofs.Common.{◌≡◌, ℕ, zero, suc, ◌+◌, ℤ, pos, negs
 use Rattle.std.proofs.lemmas.Int.{ints}
 use Rattle.ring_identities.specs.Residues.{Congruent}
 use Rattle.ring_identities.specs.Powers.{power, signed_power}
-use Rattle.ring_identities.proofs.Congruences.{congruent_eq, congruent_sym, congruent_trans}
+use Rattle.ring_identities.proofs.Congruences.{congruent_eq, congruent_trans}
 use Rattle.ring_identities.proofs.Identities.{reads, by_ring}
 use Rattle.ring_identities.proofs.Modulo.{modulos, by_congruences}
 use Rattle.ring_identities.proofs.PowerLemmas.{power-add, power-times, power_of_one, congruent_power}

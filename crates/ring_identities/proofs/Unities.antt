@@ -5,7 +5,7 @@
 use Rattle.std.proofs.Common.{◌≡◌, ℕ, ◌<◌, ℤ, pos, ◌*ℤ◌, [], ◌∷◌, refl, sym, ◌∙◌, arith}
 use Rattle.ring_identities.specs.Residues.{residue, Congruent}
 use Rattle.ring_identities.specs.Powers.{IsInverse}
-use Rattle.ring_identities.proofs.Congruences.{congruent_refl, congruent_sym, congruent_trans, congruent_times, from_residue, same_residue, residue_small}
+use Rattle.ring_identities.proofs.Congruences.{congruent_sym, congruent_trans, from_residue, same_residue, residue_small}
 use Rattle.ring_identities.proofs.Modulo.{modulos, by_congruences}
 
 pub unity_congruent : {m : ℕ} (z : ℤ) → 0 < m → residue m z ≡ 1 → Congruent m z (pos 1)
