@@ -1,2 +1,3 @@
 mod Remainders
 mod PowerSteps
+mod EuclidSteps

@@ -2,6 +2,8 @@
 // from 0 to m - 1. No call takes memory.
 #![tactic(auto, using(ring_identities::proofs::Congruences::residue_below, crate::proofs::Remainders::sum_within, crate::proofs::Remainders::sum_past, crate::proofs::Remainders::difference_within, crate::proofs::Remainders::difference_past, crate::proofs::Remainders::negative_of_zero, crate::proofs::Remainders::negative_within, crate::proofs::Remainders::product_remainder))]
 
+mod fault;
 mod ring;
 
-pub use ring::{OutOfRange, Ring};
+pub use fault::{Common, OutOfRange};
+pub use ring::Ring;

@@ -1,13 +1,11 @@
 // The ring of residues modulo m: sums, differences, negatives, products, powers and orders.
-ghost use Rattle.std.specs.Prelude.{◌≡◌, ◌<◌, ◌≤◌, ◌^◌, ◌↔◌, ℕ, pos, neg_ℤ, ◌+ℤ◌, ◌-ℤ◌, ◌*ℤ◌, IfOk, IsOk};
-ghost use Rattle.ring_identities.specs.Residues.{residue};
-ghost use Rattle.ring_identities.specs.Powers.{power, IsOrderUpTo};
+ghost use Rattle.std.specs.Prelude.{◌≡◌, ◌<◌, ◌≤◌, ◌^◌, ◌↔◌, ℕ, pos, neg_ℤ, ◌+ℤ◌, ◌-ℤ◌, ◌*ℤ◌, IfOk, IfErr, IsOk};
+ghost use Rattle.std.specs.Int.{IsGcd};
+ghost use Rattle.ring_identities.specs.Residues.{residue, Congruent};
+ghost use Rattle.ring_identities.specs.Powers.{power, IsInverse, IsOrderUpTo};
 
+use crate::fault::{Common, OutOfRange};
 use std::marker::Model;
-
-/// The modulus is below 2 or at least 2^62.
-#[derive(Clone, Copy, Debug, PartialEq, Eq)]
-pub struct OutOfRange;
 
 /// The residues modulo m, for an m from 2 to 2^62 - 1. A contract sees a ring as its modulus.
 ///
@@ -118,6 +116,48 @@ impl Ring {
             left /= 2;
         }
         product
+    }
+
+    /// The inverse of x: the residue y with x y = 1 modulo m.
+    ///
+    /// `Common` comes exactly where x and m share a divisor, and holds the greatest; for x = 0 it is m.
+    pub fn inverse(&self, x: u64) -> Result<u64, Common>
+        requires { x < self.now }
+        ensures inverse { IfOk result (λ y. IsInverse self.now x y) }
+        ensures below { IfOk result (λ y. y < self.now) }
+        ensures common { IfErr result (λ fault. IsGcd x self.now fault.gcd) }
+        ensures coprime { IsOk result ↔ IsGcd x self.now 1 }
+    {
+        let (gcd, multiplier) = self.bezout(x);
+        if gcd == self.one() {
+            Ok(multiplier)
+        } else {
+            Err(Common { gcd })
+        }
+    }
+
+    // The greatest common divisor of x and m, and a residue whose product with x is congruent to it.
+    fn bezout(&self, x: u64) -> (u64, u64)
+        requires { x < self.now }
+        ensures divisor { IsGcd x self.now result.0 }
+        ensures multiplier { Congruent self.now (pos result.1 *ℤ pos x) (pos result.0) }
+        ensures below { result.1 < self.now }
+    {
+        let m = self.modulus;
+        let mut divisor = m;
+        let mut rest = x;
+        let mut of_divisor = 0;
+        let mut of_rest = 1;
+        while rest > 0 {
+            let quotient = divisor / rest % m;
+            let remainder = divisor % rest;
+            let of_remainder = self.sub(of_divisor, self.mul(quotient, of_rest));
+            divisor = rest;
+            rest = remainder;
+            of_divisor = of_rest;
+            of_rest = of_remainder;
+        }
+        (divisor, of_divisor)
     }
 
     /// The least t from 1 to `at_most` with x^t = 1 modulo m: 20 for x = 2 and m = 41.

@@ -48,6 +48,9 @@ congruent_negative {m} {x} {y} h =
       is = ap neg_ℤ h.is ∙ identity (negative (plus (var 0) (times (var 1) (var 2)))) (plus (negative (var 0)) (times (negative (var 1)) (var 2))) (y ∷ h.factor ∷ pos m ∷ []) refl;
     }
 
+pub congruent_minus : {m : ℕ} {x y u v : ℤ} → Congruent m x y → Congruent m u v → Congruent m (x -ℤ u) (y -ℤ v)
+congruent_minus h g = congruent_plus h (congruent_negative g)
+
 -- ---- residues
 pub residue_below : (m : ℕ) (z : ℤ) → 0 < m → residue m z < m
 unfolding residue

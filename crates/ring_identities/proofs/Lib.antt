@@ -5,3 +5,6 @@ pub mod Inverses
 pub mod Identities
 pub mod Modulo
 pub mod PowerLemmas
+pub mod SignedPowers
+pub mod Unities
+pub mod LawProofs

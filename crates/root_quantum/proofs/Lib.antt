@@ -1,1 +1,3 @@
 mod QuantumSteps
+mod TwistSteps
+pub mod LawProofs

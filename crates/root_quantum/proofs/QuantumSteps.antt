@@ -1,9 +1,10 @@
 -- What the calls on a ring give, step by step, are the residues of the definitions.
-use Rattle.std.proofs.Common.{◌≡◌, ◌<◌, ℕ, pos, ◌+ℤ◌, ◌-ℤ◌, ◌*ℤ◌, neg_ℤ, [], ◌∷◌, refl, ap, ◌∙◌, arith}
+use Rattle.std.proofs.Common.{◌≡◌, ◌+◌, ◌<◌, ℕ, ℤ, pos, ◌+ℤ◌, ◌-ℤ◌, ◌*ℤ◌, neg_ℤ, [], ◌∷◌, refl, sym, ap, ◌∙◌, arith, add-one}
 use Rattle.ring_identities.specs.Residues.{residue}
+use Rattle.ring_identities.proofs.Congruences.{residue_small}
 use Rattle.ring_identities.proofs.Modulo.{modulos, by_residues}
 use Rattle.root_quantum.specs.Parameters.{Parameters}
-use Rattle.root_quantum.specs.QuantumNumbers.{inverse_root, loop_value}
+use Rattle.root_quantum.specs.QuantumNumbers.{inverse_root, loop_value, quantum_number, delta}
 
 pub modulus_positive : (p : Parameters) → 0 < p.modulus
 modulus_positive p = omega (arith, p.meets.modulus)
@@ -21,3 +22,32 @@ loop_value_steps p inverse square inverse_square sum value i s t u v =
     let positive = modulus_positive p in
     v ∙ by_residues 0 (pos p.root ∷ pos inverse ∷ []) (search (modulos, positive, s, t, u) depth 30) (search modulos depth 30) positive tt refl
     ∙ ap (λ b. residue p.modulus (neg_ℤ (pos p.root *ℤ pos p.root) -ℤ pos b *ℤ pos b)) i
+
+pub delta_none : (p : Parameters) → 1 ≡ delta p 0
+unfolding delta quantum_number
+delta_none p = sym (residue_small p.modulus 1 p.meets.modulus.0)
+
+pub delta_first : (p : Parameters) (value : ℕ) → value ≡ loop_value p → value < p.modulus → value ≡ delta p 1
+unfolding delta quantum_number
+delta_first p value is below = sym (residue_small p.modulus value below) ∙ ap (λ k. residue p.modulus (pos k)) is
+
+-- Delta_(n+2) = d Delta_(n+1) - Delta_n
+pub quantum_next : (d : ℤ) (n : ℕ) → quantum_number d (n + 1 + 1) ≡ d *ℤ quantum_number d (n + 1) -ℤ quantum_number d n
+unfolding quantum_number
+quantum_next d n = simp add-one
+
+pub delta_next : (p : Parameters) (m i value next product after : ℕ) → m ≡ p.modulus
+    → value ≡ delta p i
+    → next ≡ delta p (i + 1)
+    → product ≡ residue m (pos (loop_value p) *ℤ pos next)
+    → after ≡ residue m (pos product -ℤ pos value)
+    → after ≡ delta p (i + 1 + 1)
+unfolding delta
+delta_next p m i value next product after same value_is next_is product_at after_at =
+    let d = pos (loop_value p) in
+    let positive = modulus_positive p in
+    let value_at : value ≡ residue p.modulus (quantum_number d i) = value_is in
+    let next_at : next ≡ residue p.modulus (quantum_number d (i + 1)) = next_is in
+    let product_is : product ≡ residue p.modulus (d *ℤ pos next) = product_at ∙ ap (λ k. residue k (d *ℤ pos next)) same in
+    let after_is : after ≡ residue p.modulus (pos product -ℤ pos value) = after_at ∙ ap (λ k. residue k (pos product -ℤ pos value)) same in
+    after_is ∙ by_residues 0 (d ∷ quantum_number d i ∷ quantum_number d (i + 1) ∷ []) (search (modulos, positive, product_is, value_at, next_at) depth 30) (search modulos depth 30) positive tt refl ∙ ap (residue p.modulus) (sym (quantum_next d i))

@@ -1,3 +1,4 @@
 pub mod Parameters
 pub mod Refusals
 pub mod QuantumNumbers
+pub mod Laws

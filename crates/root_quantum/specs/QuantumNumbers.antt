@@ -6,9 +6,9 @@
 --     delta p n                Delta_n: at 41, 2, 5 these are 1, 6, 35, 40, 0
 --     twist_factor a n         mu_n = (-1)^n A^(n^2+2n) as a whole number, for A = a
 --     twist p n t              mu_n to the power t; for a negative t the power -t of (-1)^n A^-(n^2+2n)
-use Rattle.std.specs.Prelude.{ℕ, zero, suc, ◌+◌, ◌-◌, ◌*◌, ℤ, pos, negsuc, ◌-ℤ◌, ◌*ℤ◌, neg_ℤ}
+use Rattle.std.specs.Prelude.{ℕ, zero, suc, ◌+◌, ◌-◌, ◌*◌, ℤ, pos, ◌-ℤ◌, ◌*ℤ◌, neg_ℤ}
 use Rattle.ring_identities.specs.Residues.{residue}
-use Rattle.ring_identities.specs.Powers.{power, sign}
+use Rattle.ring_identities.specs.Powers.{power, sign, signed_power}
 use Rattle.root_quantum.specs.Parameters.{Parameters}
 
 -- A^-1
@@ -35,5 +35,4 @@ twist_factor a n = sign n *ℤ power a (n * n + 2 * n)
 
 -- mu_n to the power t
 unfoldable pub twist : Parameters → ℕ → ℤ → ℕ
-twist p n (pos t) = residue p.modulus (power (twist_factor (pos p.root) n) t)
-twist p n (negsuc t) = residue p.modulus (power (twist_factor (pos (inverse_root p)) n) (suc t))
+twist p n t = residue p.modulus (signed_power (twist_factor (pos p.root) n) (twist_factor (pos (inverse_root p)) n) t)

@@ -3,6 +3,7 @@
 #![tactic(auto, using(ring_identities::proofs::Congruences::residue_below))]
 
 mod fault;
+pub mod laws;
 mod params;
 
 pub use fault::ParamFault;

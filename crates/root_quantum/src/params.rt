@@ -1,12 +1,15 @@
 // Parameters m, A and r, checked once.
-ghost use Rattle.std.specs.Prelude.{◌≡◌, ◌<◌, ◌≤◌, ◌^◌, ◌*◌, ◌↔◌, ℕ, pos, IfOk, IsOk};
+ghost use Rattle.std.specs.Prelude.{◌≡◌, ◌<◌, ◌≤◌, ◌^◌, ◌*◌, ◌↔◌, ℕ, pos, IfOk, IfErr, IsOk};
+ghost use Rattle.std.specs.Int.{IsGcd};
+ghost use Rattle.ring_identities.specs.Residues.{residue};
+ghost use Rattle.ring_identities.specs.Powers.{IsInverse};
 ghost use Rattle.root_quantum.specs.Parameters.{IsParameters, IsParameters-prop, top_colour};
 ghost use Rattle.root_quantum.specs.Refusals.{IsRefused};
 ghost use Rattle.root_quantum.specs.declared.fault.ParamFault.{ParamFault};
-ghost use Rattle.root_quantum.specs.QuantumNumbers.{inverse_root, loop_value};
+ghost use Rattle.root_quantum.specs.QuantumNumbers.{inverse_root, loop_value, delta, twist_factor, twist};
 
 use crate::fault::ParamFault;
-use residue_ring::{OutOfRange, Ring};
+use residue_ring::{Common, OutOfRange, Ring};
 use std::marker::Model;
 
 /// A modulus m from 2 to 2^62 - 1, a number A of order 4r modulo m, and r from 3 to 10.
@@ -104,6 +107,70 @@ impl Params {
         let square = ring.mul(self.root, self.root);
         let inverse_square = ring.mul(inverse, inverse);
         ring.neg(ring.add(square, inverse_square))
+    }
+
+    /// `Delta_n`, the value of the n-th projector's closure: 1, 6, 35, 40, 0 from n = 0 on at 41, 2, 5.
+    pub fn delta(&self, n: u32) -> u64
+        requires { n ≤ 16 }
+        ensures value { result ≡ delta self.now n }
+        ensures below { result < self.now.modulus }
+    {
+        let ring = &self.ring;
+        let loop_value = self.loop_value();
+        let mut value = 1;
+        let mut next = loop_value;
+        for _ in 0..n {
+            let after = ring.sub(ring.mul(loop_value, next), value);
+            value = next;
+            next = after;
+        }
+        value
+    }
+
+    /// `mu_n` to the power t, of either sign, where `mu_n` = (-1)^n A^(n^2+2n) is what a full curl on a
+    /// strand of colour n multiplies by: 1, 33, 10, 32 from n = 0 on at 41, 2, 5 with t = 1.
+    pub fn twist(&self, n: u32, t: i64) -> u64
+        requires { n ≤ 8 }
+        ensures value { result ≡ twist self.now n t }
+        ensures below { result < self.now.modulus }
+    {
+        let exponent = t.unsigned_abs();
+        if t < 0 {
+            let factor = self.twist_factor(self.root_inverse(), n);
+            self.ring.pow(factor, exponent)
+        } else {
+            let factor = self.twist_factor(self.root, n);
+            self.ring.pow(factor, exponent)
+        }
+    }
+
+    // (-1)^n a^(n^2+2n).
+    #[tactic(auto, using(crate::proofs::TwistSteps::factor_even, crate::proofs::TwistSteps::factor_odd))]
+    fn twist_factor(&self, a: u64, n: u32) -> u64
+        requires in_ring { a < self.now.modulus }
+        requires in_range { n ≤ 8 }
+        ensures value { result ≡ residue self.now.modulus (twist_factor (pos a) n) }
+        ensures below { result < self.now.modulus }
+    {
+        let power = self.ring.pow(a, u64::from(n * n + 2 * n));
+        if n % 2 == 0 {
+            power
+        } else {
+            self.ring.neg(power)
+        }
+    }
+
+    /// The inverse of `Delta_n`.
+    ///
+    /// `Common` comes exactly where `Delta_n` and m share a divisor, and holds the greatest.
+    pub fn inverse_delta(&self, n: u32) -> Result<u64, Common>
+        requires { n ≤ 16 }
+        ensures inverse { IfOk result (λ y. IsInverse self.now.modulus (delta self.now n) y) }
+        ensures below { IfOk result (λ y. y < self.now.modulus) }
+        ensures common { IfErr result (λ fault. IsGcd (delta self.now n) self.now.modulus fault.gcd) }
+        ensures coprime { IsOk result ↔ IsGcd (delta self.now n) self.now.modulus 1 }
+    {
+        self.ring.inverse(self.delta(n))
     }
 
     /// The greatest colour, the smaller of r - 1 and 8.
