@@ -27,9 +27,9 @@ module _ {I : Type 0} (labels_of : I → List ℕ) where
       elim (cases_Bool (ltb 256 (length items))) [
         | inl many ↦ (let refused : Some (faults.TooMany 256) ≡ None = rw many at e in absurd cc)
         | inr few ↦ record {
-            few = ltb-false 256 (length items) few;
-            sizes = sizes;
-            in_range = in_range;
-            twice = each_stands_twice (labels labels_of items) (no_label items (least_unpaired (labels labels_of items)) (rw few at e));
-          }
+          few = ltb-false 256 (length items) few;
+          sizes = sizes;
+          in_range = in_range;
+          twice = each_stands_twice (labels labels_of items) (no_label items (least_unpaired (labels labels_of items)) (rw few at e));
+        }
       ]

@@ -1,2 +1,6 @@
 mod Least
 mod Labels
+mod StopLemmas
+mod ItemCalls
+mod TextTokens
+mod Readings

@@ -1,3 +1,6 @@
 pub mod Items
 pub mod Diagrams
 pub mod Texts
+pub mod Faults
+pub mod Stops
+pub mod Answers

@@ -59,11 +59,7 @@ fn separator(i: usize) -> u8
     ensures mark { result ≡ separator_of i }
     ensures token { is_space result ≡ false }
 {
-    if i == 0 {
-        b'['
-    } else {
-        b','
-    }
+    if i == 0 { b'[' } else { b',' }
 }
 
 /// Reads `head[a,..,a]` with an argument for each slot, which takes the slot's place. It says where the

@@ -1,12 +1,12 @@
-//! Diagrams: items in which each label stands twice.
+//! Diagrams and nets: items in which each label stands twice.
 
 ghost use Rattle.std.specs.Prelude.{◌≡◌, ◌⊎◌, ◌<◌, ◌≤◌, None, Some, length, IfOk, IfErr, OnOk, List};
 ghost use Rattle.std.specs.List.{AllByRecursion};
-ghost use Rattle.pd_reader.specs.Items.{item_labels};
-ghost use Rattle.pd_reader.specs.Diagrams.{IsDiagram, IsLabel, labels, refusal};
+ghost use Rattle.pd_reader.specs.Items.{item_labels, net_item_labels};
+ghost use Rattle.pd_reader.specs.Diagrams.{IsDiagram, IsNet, IsLabel, labels, refusal};
 
 use crate::fault::DiagramFault;
-use crate::item::{Item, Labelled};
+use crate::item::{Item, Labelled, NetItem};
 use crate::label::{labels, unpaired};
 use std::alloc::Global;
 use std::marker::Model;
@@ -47,7 +47,10 @@ fn check_items<I: Labelled>(alloc: Global, items: &[I]) -> Result<(), DiagramFau
     }
     let labels = labels(alloc, items)?;
     match unpaired(&labels) {
-        Some((label, count)) => Err(DiagramFault::Label { label, count: count as u32 }),
+        Some((label, count)) => Err(DiagramFault::Label {
+            label,
+            count: count as u32,
+        }),
         None => Ok(()),
     }
 }
@@ -73,6 +76,52 @@ impl Diagram {
     pub fn items(&self) -> &[Item]
         ensures items { result.now ≡ self.now }
         ensures diagram { IsDiagram self.now }
+    {
+        &self.items
+    }
+}
+
+/// A net as a list of at most 256 items, in which each label is 1 to 2,000,000 and stands twice.
+///
+/// Contracts see a net as the list of its items. `IsNet` says what each such list keeps.
+#[derive(Drop, Debug)]
+pub struct NetDiagram {
+    items: Vec<NetItem>,
+}
+
+impl Model for NetDiagram {
+    ghost use Rattle.std.specs.Prelude.{List};
+    ghost use Rattle.pd_reader.specs.declared.item.NetItem.{NetItem};
+
+    ghost Value = { List NetItem };
+
+    ghost use Rattle.pd_reader.specs.Diagrams.{IsNet};
+
+    ghost view = { λ net. net.items.items };
+
+    ghost invariant = { λ net. IsNet net.items.items };
+}
+
+impl NetDiagram {
+    /// The net with these items.
+    ///
+    /// The refusals are those of `Diagram::new`.
+    pub fn new(alloc: Global, items: &[NetItem]) -> Result<NetDiagram, DiagramFault>
+        requires { AllByRecursion IsLabel (labels net_item_labels items.now) }
+        ensures made { IfOk result (λ net. net ≡ items.now) }
+        ensures ok { OnOk result (refusal net_item_labels items.now ≡ None) }
+        // A refusal names the first reason, but where memory runs out.
+        ensures refused { IfErr result (λ fault. (fault ≡ DiagramFault.Memory) ⊎ (refusal net_item_labels items.now ≡ Some fault)) }
+    {
+        check_items(alloc, items)?;
+        let items = Vec::from_slice(alloc, items)?;
+        Ok(NetDiagram { items })
+    }
+
+    /// The items, in the order in which they were given.
+    pub fn items(&self) -> &[NetItem]
+        ensures items { result.now ≡ self.now }
+        ensures net { IsNet self.now }
     {
         &self.items
     }

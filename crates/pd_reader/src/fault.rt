@@ -1,7 +1,9 @@
 //! Why a list of items is no diagram, and why bytes are no text of one.
 
-ghost use Rattle.std.specs.Prelude.{◌≡◌};
+ghost use Rattle.std.specs.Prelude.{◌≡◌, ◌≤◌, length, Some};
 ghost use Rattle.pd_reader.specs.declared.fault.DiagramFault.TheVariants.{Memory};
+ghost use Rattle.pd_reader.specs.declared.fault.Stop.TheVariants as stops;
+ghost use Rattle.pd_reader.specs.Faults.{NamesByte, of_items, place_of};
 
 use std::alloc::{AllocError, AllocFailed};
 
@@ -47,4 +49,63 @@ pub enum TextFault {
     Label { label: u32, count: u32 },
     /// Memory ran out.
     Memory,
+}
+
+impl From<DiagramFault> for TextFault {
+    ghost from_gives = { λ fault e. e ≡ of_items fault };
+
+    fn from(fault: DiagramFault) -> TextFault {
+        match fault {
+            DiagramFault::TooMany { limit } => TextFault::TooMany { limit },
+            DiagramFault::Label { label, count } => TextFault::Label { label, count },
+            DiagramFault::Memory => TextFault::Memory,
+        }
+    }
+}
+
+/// Where a reader stops, before it is said what stands there.
+#[derive(Clone, Copy, Debug, PartialEq, Eq)]
+pub enum Stop {
+    /// The bytes go on up to here as the shape says, and no further.
+    At(usize),
+    /// Memory ran out.
+    Memory,
+}
+
+impl From<usize> for Stop {
+    ghost from_gives = { λ p e. e ≡ stops.At p };
+
+    fn from(p: usize) -> Stop {
+        Stop::At(p)
+    }
+}
+
+impl From<AllocError> for Stop {
+    ghost from_gives = { λ _ e. e ≡ stops.Memory };
+
+    fn from(_error: AllocError) -> Stop {
+        Stop::Memory
+    }
+}
+
+impl<T: Drop> From<AllocFailed<T>> for Stop {
+    ghost from_gives = { λ _ e. e ≡ stops.Memory };
+
+    fn from(_error: AllocFailed<T>) -> Stop {
+        Stop::Memory
+    }
+}
+
+/// The refusal at a place, named by the byte that stands there: `Head` by a letter, `Number` by a digit,
+/// `Text` by any other byte or the end.
+pub fn fault_at(bytes: &[u8], at: usize) -> TextFault
+    requires { at ≤ length bytes.now }
+    ensures kind { NamesByte bytes.now result }
+    ensures place { place_of result ≡ Some at }
+{
+    match bytes.get(at) {
+        Some(b'A'..=b'Z' | b'a'..=b'z') => TextFault::Head { at },
+        Some(b'0'..=b'9') => TextFault::Number { at },
+        _ => TextFault::Text { at },
+    }
 }

@@ -7,10 +7,14 @@ mod diagram;
 mod fault;
 mod item;
 mod label;
+mod list;
 mod scan;
+mod text;
 
 pub use call::{Argument, read_call};
-pub use diagram::Diagram;
-pub use fault::{DiagramFault, TextFault};
+pub use diagram::{Diagram, NetDiagram};
+pub use fault::{DiagramFault, Stop, TextFault, fault_at};
 pub use item::{Item, NetItem};
+pub use list::{TextItem, read_behind, read_list, read_text};
 pub use scan::{agree, finish, mark, number, skip, stands, word};
+pub use text::{read_net, read_pd};

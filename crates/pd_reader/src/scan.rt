@@ -102,9 +102,5 @@ pub fn finish(bytes: &[u8], at: usize) -> Result<(), usize>
     ensures err { IfErr result (λ p. (place bytes.now at [] ≡ p) × (p ≤ length bytes.now)) }
 {
     let end = skip(bytes, at);
-    if end == bytes.len() {
-        Ok(())
-    } else {
-        Err(end)
-    }
+    if end == bytes.len() { Ok(()) } else { Err(end) }
 }

@@ -70,7 +70,7 @@ module _ {K A : Type 0} (token : A → List ℕ) (fits : K → A → Type 0) (ha
       let next_mark : mark_before (i + 1) ≡ codes "," = rw (ne_eqb (i + 1) 0 (λ e. omega arith)) refl in
       let forward : here ≤ after = omega (arith, mark.sum, found.from) in
       let leads : (y : A) (ys : List A) (more : List (List ℕ)) → place bytes at (call token head (xs ++ y ∷ ys) ++ more) ≡ place bytes start (token y ∷ (arguments token (codes ",") ys ++ more))
-          = λ y ys more. so_far.same (y ∷ ys) more ∙ place-stands bytes here (mark_before i) start (token y ∷ (arguments token (codes ",") ys ++ more)) (mark_is_token i) mark in
+      = λ y ys more. so_far.same (y ∷ ys) more ∙ place-stands bytes here (mark_before i) start (token y ∷ (arguments token (codes ",") ys ++ more)) (mark_is_token i) mark in
       record {
         from = omega (arith, so_far.from, forward);
         within = found.within;

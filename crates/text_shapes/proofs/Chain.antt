@@ -15,9 +15,9 @@ LeadsTo-then fits_a F fits_w G fits_u H e f bytes a b c p q = record {
   others = λ v more h. elim (p.others v more h) [
     | inr passed ↦ inr (omega (arith, passed, q.from))
     | inl left ↦ elim (q.others left.0 more left.2) [
-        | inr passed ↦ inr (rw left.1 (omega (arith, passed, p.same left.0 more)))
-        | inl rest ↦ inl (rest.0, left.1 ∙ ap e rest.1, rest.2)
-      ]
+      | inr passed ↦ inr (rw left.1 (omega (arith, passed, p.same left.0 more)))
+      | inl rest ↦ inl (rest.0, left.1 ∙ ap e rest.1, rest.2)
+    ]
   ];
 }
 
@@ -46,9 +46,9 @@ LeadsTo-found fits_a F fits_w G e bytes a b next w l f = record {
   others = λ v more h. elim (l.others v more h) [
     | inr passed ↦ inr (omega (arith, passed, f.from))
     | inl left ↦ elim (f.others left.0 more left.2) [
-        | inl is ↦ inl (left.1 ∙ ap e is)
-        | inr passed ↦ inr (rw left.1 (omega (arith, l.same left.0 more, passed)))
-      ]
+      | inl is ↦ inl (left.1 ∙ ap e is)
+      | inr passed ↦ inr (rw left.1 (omega (arith, l.same left.0 more, passed)))
+    ]
   ];
 }
 
@@ -89,7 +89,9 @@ token_stands fits t G bytes a b token s = record {
 
 pub token_falls : {A : Type 0} (fits : A → Type 0) (t : List ℕ) (G : A → List (List ℕ)) (bytes : List ℕ) (a p : ℕ) (v : A) → fits v → Falls bytes a t p → Missed fits (λ v. t ∷ G v) bytes a p
 token_falls fits t G bytes a p v h f = record {
-  within = f.within; furthest = v; fits_shape = h;
+  within = f.within;
+  furthest = v;
+  fits_shape = h;
   reached = λ more. f.same (G v ++ more);
   most = λ w more k. omega (arith, f.same (G w ++ more));
 }
@@ -124,19 +126,23 @@ found_accepts fits F bytes v next f e = record {
 
 pub found_refuses : {A : Type 0} (fits : A → Type 0) (F : A → List (List ℕ)) (bytes : List ℕ) (v : A) (next p : ℕ) → Found fits F bytes 0 v next → place bytes next [] ≡ p → p ≤ length bytes → Refuses fits F bytes p
 found_refuses {A = A'} fits F bytes v next p f e within = record {
-  within = within; furthest = v; fits_shape = f.fits_shape;
+  within = within;
+  furthest = v;
+  fits_shape = f.fits_shape;
   reached = subst (λ (ts : List (List ℕ)). p ≤ place bytes 0 ts) (append-nil (F v)) (omega (arith, f.same [], e));
   most = most;
 } where
-    most : (w : A') → fits w → place bytes 0 (F w) ≤ p
-    most w h = elim (f.others w [] h) [
-        | inl is ↦ rw is (subst (λ (ts : List (List ℕ)). place bytes 0 ts ≤ p) (append-nil (F v)) (omega (arith, f.same [], e)))
-        | inr le ↦ subst (λ (ts : List (List ℕ)). place bytes 0 ts ≤ p) (append-nil (F w)) (omega (arith, le, e))
-      ]
+  most : (w : A') → fits w → place bytes 0 (F w) ≤ p
+  most w h = elim (f.others w [] h) [
+    | inl is ↦ rw is (subst (λ (ts : List (List ℕ)). place bytes 0 ts ≤ p) (append-nil (F v)) (omega (arith, f.same [], e)))
+    | inr le ↦ subst (λ (ts : List (List ℕ)). place bytes 0 ts ≤ p) (append-nil (F w)) (omega (arith, le, e))
+  ]
 
 pub missed_refuses : {A : Type 0} (fits : A → Type 0) (F : A → List (List ℕ)) (bytes : List ℕ) (p : ℕ) → Missed fits F bytes 0 p → Refuses fits F bytes p
 missed_refuses fits F bytes p m = record {
-  within = m.within; furthest = m.furthest; fits_shape = m.fits_shape;
+  within = m.within;
+  furthest = m.furthest;
+  fits_shape = m.fits_shape;
   reached = subst (λ (ts : List (List ℕ)). p ≤ place bytes 0 ts) (append-nil (F m.furthest)) (omega (arith, m.reached []));
   most = λ w h. subst (λ (ts : List (List ℕ)). place bytes 0 ts ≤ p) (append-nil (F w)) (m.most w [] h);
 }

@@ -11,3 +11,5 @@ pub mod Choice
 pub mod Chain
 pub mod Lists
 pub mod Slots
+pub mod Marked
+pub mod TokenLists

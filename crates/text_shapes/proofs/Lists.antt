@@ -14,7 +14,9 @@ module _ {V : Type 0} (fits : V → Type 0) (item : V → List (List ℕ)) (byte
   -- white space is passed over
   pub chain_skips : {A : Type 0} (fits_a : A → Type 0) (F : A → List (List ℕ)) (at next : ℕ) → Skips bytes at next → LeadsTo fits_a F fits_a F (λ v. v) bytes at next
   chain_skips fits_a F at next s = record {
-    from = omega (arith, s.sum); within = s.within; onto = λ v h. h;
+    from = omega (arith, s.sum);
+    within = s.within;
+    onto = λ v h. h;
     same = λ v more. place-skips bytes at next (F v ++ more) s;
     others = λ v more h. inl (v, refl, h);
   }
@@ -22,27 +24,28 @@ module _ {V : Type 0} (fits : V → Type 0) (item : V → List (List ℕ)) (byte
   pub chain_first : (first next : ℕ) (v : V) → IsStop bytes first → (first < length bytes → get_or bytes first 0 ≡ 93 → ⊥) → Found fits item bytes first v next
       → LeadsTo All_fit (items_inside item) All_fit (items_behind item) (λ ws. v ∷ ws) bytes first next
   chain_first first next v stop ne f = record {
-      from = f.from; within = f.within;
-      onto = λ ws h. (f.fits_shape, h);
-      same = λ ws more. ap (place bytes first) (append_assoc (item v) (items_behind item ws) more) ∙ f.same (items_behind item ws ++ more);
-      others = others;
-    }
+    from = f.from;
+    within = f.within;
+    onto = λ ws h. (f.fits_shape, h);
+    same = λ ws more. ap (place bytes first) (append_assoc (item v) (items_behind item ws) more) ∙ f.same (items_behind item ws ++ more);
+    others = others;
+  }
     where
       others : (all : List V) (more : List (List ℕ)) → AllByRecursion fits all → ((ws : List V) × (all ≡ v ∷ ws) × AllByRecursion fits ws) ⊎ (place bytes first (items_inside item all ++ more) ≤ next)
       others [] more h = inr (omega (arith, place-no_mark bytes first 93 [] more stop ne, f.from))
       others (w ∷ ws) more h = elim (f.others w (items_behind item ws ++ more) h.0) [
-          | inl e ↦ inl (ws, ap (λ (x : V). x ∷ ws) e, h.1)
-          | inr le ↦ inr (subst (λ (ts : List (List ℕ)). place bytes first ts ≤ next) (sym (append_assoc (item w) (items_behind item ws) more)) le)
-        ]
+        | inl e ↦ inl (ws, ap (λ (x : V). x ∷ ws) e, h.1)
+        | inr le ↦ inr (subst (λ (ts : List (List ℕ)). place bytes first ts ≤ next) (sym (append_assoc (item w) (items_behind item ws) more)) le)
+      ]
 
   pub chain_inside_missed : (first p : ℕ) → IsStop bytes first → (first < length bytes → get_or bytes first 0 ≡ 93 → ⊥) → Missed fits item bytes first p → Missed All_fit (items_inside item) bytes first p
   chain_inside_missed first p stop ne m = record {
-      within = m.within;
-      furthest = m.furthest ∷ [];
-      fits_shape = (m.fits_shape, tt);
-      reached = λ more. ap (place bytes first) (append_assoc (item m.furthest) (items_behind item []) more) ∙ m.reached (items_behind item [] ++ more);
-      most = most;
-    }
+    within = m.within;
+    furthest = m.furthest ∷ [];
+    fits_shape = (m.fits_shape, tt);
+    reached = λ more. ap (place bytes first) (append_assoc (item m.furthest) (items_behind item []) more) ∙ m.reached (items_behind item [] ++ more);
+    most = most;
+  }
     where
       most : (all : List V) (more : List (List ℕ)) → AllByRecursion fits all → place bytes first (items_inside item all ++ more) ≤ p
       most [] more h = omega (arith, place-no_mark bytes first 93 [] more stop ne, m.reached [])
@@ -51,44 +54,47 @@ module _ {V : Type 0} (fits : V → Type 0) (item : V → List (List ℕ)) (byte
   pub chain_more : (here next : ℕ) (v : V) → IsStop bytes here → here < length bytes → get_or bytes here 0 ≡ 44 → Found fits item bytes (here + 1) v next
       → LeadsTo All_fit (items_behind item) All_fit (items_behind item) (λ ws. v ∷ ws) bytes here next
   chain_more here next v stop lt comma f = record {
-      from = omega (arith, f.from); within = f.within;
-      onto = λ ws h. (f.fits_shape, h);
-      same = λ ws more. place-mark bytes here 44 ((item v ++ items_behind item ws) ++ more) stop lt comma ∙ (ap (place bytes (here + 1)) (append_assoc (item v) (items_behind item ws) more) ∙ f.same (items_behind item ws ++ more));
-      others = others;
-    }
+    from = omega (arith, f.from);
+    within = f.within;
+    onto = λ ws h. (f.fits_shape, h);
+    same = λ ws more. place-mark bytes here 44 ((item v ++ items_behind item ws) ++ more) stop lt comma ∙ (ap (place bytes (here + 1)) (append_assoc (item v) (items_behind item ws) more) ∙ f.same (items_behind item ws ++ more));
+    others = others;
+  }
     where
       others : (all : List V) (more : List (List ℕ)) → AllByRecursion fits all → ((ws : List V) × (all ≡ v ∷ ws) × AllByRecursion fits ws) ⊎ (place bytes here (items_behind item all ++ more) ≤ next)
       others [] more h = inr (omega (arith, place-no_mark bytes here 93 [] more stop (λ l e. omega (arith, comma, e)), f.from))
       others (w ∷ ws) more h = elim (f.others w (items_behind item ws ++ more) h.0) [
-          | inl e ↦ inl (ws, ap (λ (x : V). x ∷ ws) e, h.1)
-          | inr le ↦ inr (
-              let e : place bytes here (items_behind item (w ∷ ws) ++ more) ≡ place bytes (here + 1) (item w ++ (items_behind item ws ++ more))
-                  = place-mark bytes here 44 ((item w ++ items_behind item ws) ++ more) stop lt comma ∙ ap (place bytes (here + 1)) (append_assoc (item w) (items_behind item ws) more) in
-              omega (arith, le, e))
-        ]
+        | inl e ↦ inl (ws, ap (λ (x : V). x ∷ ws) e, h.1)
+        | inr le ↦ inr (
+            let e : place bytes here (items_behind item (w ∷ ws) ++ more) ≡ place bytes (here + 1) (item w ++ (items_behind item ws ++ more))
+            = place-mark bytes here 44 ((item w ++ items_behind item ws) ++ more) stop lt comma ∙ ap (place bytes (here + 1)) (append_assoc (item w) (items_behind item ws) more) in
+            omega (arith, le, e))
+      ]
 
   pub chain_behind_missed : (here p : ℕ) → IsStop bytes here → here < length bytes → get_or bytes here 0 ≡ 44 → Missed fits item bytes (here + 1) p → Missed All_fit (items_behind item) bytes here p
   chain_behind_missed here p stop lt comma m = record {
-      within = m.within;
-      furthest = m.furthest ∷ [];
-      fits_shape = (m.fits_shape, tt);
-      reached = λ more. step m.furthest [] more ∙ m.reached (items_behind item [] ++ more);
-      most = most;
-    }
+    within = m.within;
+    furthest = m.furthest ∷ [];
+    fits_shape = (m.fits_shape, tt);
+    reached = λ more. step m.furthest [] more ∙ m.reached (items_behind item [] ++ more);
+    most = most;
+  }
     where
       step : (w : V) (ws : List V) (more : List (List ℕ)) → place bytes here (items_behind item (w ∷ ws) ++ more) ≡ place bytes (here + 1) (item w ++ (items_behind item ws ++ more))
       step w ws more = place-mark bytes here 44 ((item w ++ items_behind item ws) ++ more) stop lt comma ∙ ap (place bytes (here + 1)) (append_assoc (item w) (items_behind item ws) more)
+
       most : (all : List V) (more : List (List ℕ)) → AllByRecursion fits all → place bytes here (items_behind item all ++ more) ≤ p
       most [] more h = omega (arith, place-no_mark bytes here 93 [] more stop (λ l e. omega (arith, comma, e)), m.reached [])
       most (w ∷ ws) more h = omega (arith, step w ws more, m.most w (items_behind item ws ++ more) h.0)
 
   pub chain_closed : (here : ℕ) → IsStop bytes here → here < length bytes → get_or bytes here 0 ≡ 93 → Found All_fit (items_behind item) bytes here [] (here + 1)
   chain_closed here stop lt e = record {
-      fits_shape = tt;
-      from = omega arith; within = omega (arith, lt);
-      same = λ more. place-mark bytes here 93 more stop lt e;
-      others = others;
-    }
+    fits_shape = tt;
+    from = omega arith;
+    within = omega (arith, lt);
+    same = λ more. place-mark bytes here 93 more stop lt e;
+    others = others;
+  }
     where
       others : (all : List V) (more : List (List ℕ)) → AllByRecursion fits all → (all ≡ []) ⊎ (place bytes here (items_behind item all ++ more) ≤ here + 1)
       others [] more h = inl refl
@@ -96,10 +102,12 @@ module _ {V : Type 0} (fits : V → Type 0) (item : V → List (List ℕ)) (byte
 
   pub chain_nothing : (here : ℕ) → IsStop bytes here → (here < length bytes → get_or bytes here 0 ≡ 44 → ⊥) → (here < length bytes → get_or bytes here 0 ≡ 93 → ⊥) → Missed All_fit (items_behind item) bytes here here
   chain_nothing here stop comma bracket = record {
-      within = stop.0; furthest = []; fits_shape = tt;
-      reached = λ more. place-no_mark bytes here 93 [] more stop bracket;
-      most = most;
-    }
+    within = stop.0;
+    furthest = [];
+    fits_shape = tt;
+    reached = λ more. place-no_mark bytes here 93 [] more stop bracket;
+    most = most;
+  }
     where
       most : (all : List V) (more : List (List ℕ)) → AllByRecursion fits all → place bytes here (items_behind item all ++ more) ≤ here
       most [] more h = omega (arith, place-no_mark bytes here 93 [] more stop bracket)
@@ -117,10 +125,12 @@ module _ {V : Type 0} (fits : V → Type 0) (item : V → List (List ℕ)) (byte
   pub chain_none : (first : ℕ) → IsStop bytes first → first < length bytes → get_or bytes first 0 ≡ 93 → ((v : V) (more : List (List ℕ)) → place bytes first (item v ++ more) ≤ first)
       → Found All_fit (items_inside item) bytes first [] (first + 1)
   chain_none first stop lt e none = record {
-      fits_shape = tt; from = omega arith; within = omega (arith, lt);
-      same = λ more. place-mark bytes first 93 more stop lt e;
-      others = others;
-    }
+    fits_shape = tt;
+    from = omega arith;
+    within = omega (arith, lt);
+    same = λ more. place-mark bytes first 93 more stop lt e;
+    others = others;
+  }
     where
       others : (all : List V) (more : List (List ℕ)) → AllByRecursion fits all → (all ≡ []) ⊎ (place bytes first (items_inside item all ++ more) ≤ first + 1)
       others [] more h = inl refl
@@ -133,7 +143,15 @@ module _ {V : Type 0} (fits : V → Type 0) (item : V → List (List ℕ)) (byte
       → LeadsTo All_fit (λ vs. t ∷ codes "[" ∷ items_inside item vs) All_fit (items_inside item) (λ vs. vs) bytes at first
   chain_opened t at head opened first token bracket s o k =
       LeadsTo-then All_fit (λ vs. t ∷ codes "[" ∷ items_inside item vs) All_fit (λ vs. codes "[" ∷ items_inside item vs) All_fit (items_inside item) (λ vs. vs) (λ vs. vs) bytes at head first
-        (token_stands All_fit t (λ vs. codes "[" ∷ items_inside item vs) bytes at head token s)
-        (LeadsTo-then All_fit (λ vs. codes "[" ∷ items_inside item vs) All_fit (items_inside item) All_fit (items_inside item) (λ vs. vs) (λ vs. vs) bytes head opened first
-          (token_stands All_fit (codes "[") (items_inside item) bytes head opened bracket o)
-          (chain_skips All_fit (items_inside item) opened first k))
+      (token_stands All_fit t (λ vs. codes "[" ∷ items_inside item vs) bytes at head token s)
+      (LeadsTo-then All_fit (λ vs. codes "[" ∷ items_inside item vs) All_fit (items_inside item) All_fit (items_inside item) (λ vs. vs) (λ vs. vs) bytes head opened first
+      (token_stands All_fit (codes "[") (items_inside item) bytes head opened bracket o)
+      (chain_skips All_fit (items_inside item) opened first k))
+
+  -- a word, the bracket that opens and the first item
+  pub chain_begun : (t : List ℕ) (at head opened first next : ℕ) (v : V) → IsToken t → IsToken (codes "[") → Stands bytes at t head → Stands bytes head (codes "[") opened → Skips bytes opened first
+      → (first < length bytes → get_or bytes first 0 ≡ 93 → ⊥) → Found fits item bytes first v next
+      → LeadsTo All_fit (λ vs. t ∷ codes "[" ∷ items_inside item vs) All_fit (items_behind item) (λ ws. v ∷ ws) bytes at next
+  chain_begun t at head opened first next v token bracket s o k ne f =
+      LeadsTo-then All_fit (λ vs. t ∷ codes "[" ∷ items_inside item vs) All_fit (items_inside item) All_fit (items_behind item) (λ vs. vs) (λ ws. v ∷ ws) bytes at first next
+      (chain_opened t at head opened first token bracket s o k) (chain_first first next v (k.within, k.stops) ne f)

@@ -34,4 +34,3 @@ no_letter [] i rest c y blank letter e =
     let bad : false ≡ true = sym m.2 ∙ (ap is_word_byte is ∙ letter) in
     absurd cc
 no_letter (b ∷ space) i rest c y blank letter e = let is : b ≡ c = cc in let bad : true ≡ false = sym blank.0 ∙ (ap is_space is ∙ word_byte_no_space c letter) in absurd cc
-

@@ -19,9 +19,9 @@ numeral_is ds n h =
     let high = value_bound ds h.decimal h.at_most_six in
     let spelled = decimal-digits_value (numerals_by_value (AllDigits 10) tells_digits) ds h.decimal h.some (λ e. absurd (h.first_is_not_zero e)) (omega (arith, high)) in
     let low : 0 < digits_value 10 ds = elim (cases_eq (digits_value 10 ds) 0) [
-        | inl zero_value ↦ absurd (h.first_is_not_zero (ap (λ (xs : List ℕ). get_or xs 0 0) (sym spelled ∙ (ap decimal zero_value ∙ decimal_digit 0 (omega arith)))))
-        | inr ne ↦ omega (arith, ne)
-      ] in
+      | inl zero_value ↦ absurd (h.first_is_not_zero (ap (λ (xs : List ℕ). get_or xs 0 0) (sym spelled ∙ (ap decimal zero_value ∙ decimal_digit 0 (omega arith)))))
+      | inr ne ↦ omega (arith, ne)
+    ] in
     (record { low = omega (arith, low, h.value); high = omega (arith, high, h.value) }, sym spelled ∙ ap decimal h.value)
 
 pub is_numeral : (n : ℕ) → IsNumber n → IsNumeral (decimal n) n

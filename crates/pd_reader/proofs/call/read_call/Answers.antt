@@ -31,7 +31,7 @@ returns-in_err-start-clause-err g c =
     let falls = subst (λ (b : ℕ). Falls c.args.bytes.now c.loop-i.place (b ∷ []) c.in_err-start.field-0.0) c.separator.ensures.mark c.in_err-start.ensures.err in
     let lt : c.loop-i.i < length c.loop-i.slots = omega arith in
     rw (p.1, p.2) (slot_mark_missing g.A.Argument.token g.A.Argument.is_of_kind (has_some g) c.args.bytes.now c.args.at c.args.head.now c.requires.word c.loop-i.slots c.args.slots.now c.loop-i.i c.loop-i.place c.loop-i.invariant.read
-      c.index-slots-i.result c.loop-i.invariant.left lt c.in_err-start.field-0.0 falls)
+    c.index-slots-i.result c.loop-i.invariant.left lt c.in_err-start.field-0.0 falls)
 
 pub returns-in_err-argument-clause-err : goal.returns-in_err-argument-clause-err
 returns-in_err-argument-clause-err g c =
@@ -40,7 +40,7 @@ returns-in_err-argument-clause-err g c =
     let lt : c.loop-i.i < length c.loop-i.slots = omega arith in
     let missed = subst (λ k. TokenMissed (g.A.Argument.is_of_kind k) g.A.Argument.token c.args.bytes.now c.in_ok-start.start c.in_err-argument.field-0.0) c.index-slots-i.is c.in_err-argument.ensures.err in
     rw (p.1, p.2) (slot_missing g.A.Argument.token g.A.Argument.is_of_kind (has_some g) c.args.bytes.now c.args.at c.args.head.now c.requires.word c.loop-i.slots c.args.slots.now c.loop-i.i c.loop-i.place c.loop-i.invariant.read
-      c.index-slots-i.result c.loop-i.invariant.left lt c.in_ok-start.start c.in_err-argument.field-0.0 stands missed)
+    c.index-slots-i.result c.loop-i.invariant.left lt c.in_ok-start.start c.in_err-argument.field-0.0 stands missed)
 
 pub loop-i-preserved : goal.loop-i-preserved
 loop-i-preserved g c =
@@ -50,7 +50,7 @@ loop-i-preserved g c =
     record {
       left = left_after c.loop-i.slots c.args.slots.now c.loop-i.i c.in_ok-argument.argument c.loop-i.invariant.left;
       read = slot_more g.A.Argument.token g.A.Argument.is_of_kind (has_some g) c.args.bytes.now c.args.at c.args.head.now c.requires.word c.loop-i.slots c.args.slots.now c.loop-i.i c.loop-i.place c.loop-i.invariant.read
-        c.index-slots-i.result c.loop-i.invariant.left lt c.in_ok-start.start c.in_ok-argument.after c.in_ok-argument.argument stands found;
+          c.index-slots-i.result c.loop-i.invariant.left lt c.in_ok-start.start c.in_ok-argument.after c.in_ok-argument.argument stands found;
     }
 
 pub mark-requires-2-clause-token : goal.mark-requires-2-clause-token

@@ -1,0 +1,6 @@
+use Rattle.pd_reader.specs.Items.{net_item_labels, HasItsEdges}
+use Rattle.pd_reader.proofs.Labels.{unrefused_is_paired}
+use Rattle.pd_reader.proofs.diagram.NetDiagram.new.Goals as goal
+
+pub invariant_of-result : goal.invariant_of-result
+invariant_of-result c = rw c.in_ok-items.ensures.items (unrefused_is_paired net_item_labels HasItsEdges _ c.in_ok-check_items.ensures.ok c.in_ok-check_items.ensures.sized c.requires)

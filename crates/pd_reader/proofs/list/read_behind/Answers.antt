@@ -1,0 +1,57 @@
+use Rattle.std.proofs.Common.{◌≡◌, ◌+◌, refl, sym, subst, ap, ◌∙◌, append_assoc, append-nil, List, [], ◌∷◌, ◌++◌}
+use Rattle.std.specs.List.{AllByRecursion}
+use Rattle.std.proofs.lemmas.Result.{err_from_is_err_and}
+use Rattle.text_shapes.specs.Shapes.{items_behind}
+use Rattle.text_shapes.specs.Readers.{Found}
+use Rattle.text_shapes.proofs.Places.{IsStop}
+use Rattle.text_shapes.proofs.Marked.{not_there}
+use Rattle.text_shapes.proofs.Chain.{LeadsTo-missed, LeadsTo-found}
+use Rattle.text_shapes.proofs.Lists.{chain_skips, chain_turn, chain_behind_missed, chain_closed, chain_nothing}
+use Rattle.pd_reader.proofs.list.read_behind.Given.{Over}
+use Rattle.pd_reader.proofs.list.read_behind.Goals as goal
+
+pub loop-at-init : goal.loop-at-init
+loop-at-init g c = record {
+  read = [];
+  grown = sym (append-nil c.args.items.now.items);
+  leads = chain_skips g.I.TextItem.fits g.I.TextItem.tokens c.args.bytes.now (AllByRecursion g.I.TextItem.fits) (items_behind g.I.TextItem.tokens) c.args.at c.skip-next.result c.skip-next.ensures;
+  stop = (c.skip-next.ensures.within, c.skip-next.ensures.stops);
+}
+
+pub returns-in_err-item-clause-err : goal.returns-in_err-item-clause-err
+returns-in_err-item-clause-err g c =
+    let p = err_from_is_err_and c.from_residual.result c.from_residual.ensures.1 in
+    let here = c.stands.ensures.0 c.loop-at-test.true in
+    rw (p.1, p.2) (LeadsTo-missed (AllByRecursion g.I.TextItem.fits) (items_behind g.I.TextItem.tokens) (AllByRecursion g.I.TextItem.fits) (items_behind g.I.TextItem.tokens) (λ rest. c.loop-at.invariant.read ++ rest)
+    c.args.bytes.now c.args.at c.loop-at.next c.in_err-item.field-0.0 c.loop-at.invariant.leads
+    (chain_behind_missed g.I.TextItem.fits g.I.TextItem.tokens c.args.bytes.now c.loop-at.next c.in_err-item.field-0.0 c.loop-at.invariant.stop here.0 here.1 c.in_err-item.ensures.err))
+
+pub loop-at-preserved : goal.loop-at-preserved
+loop-at-preserved g c =
+    let here = c.stands.ensures.0 c.loop-at-test.true in
+    record {
+      read = c.loop-at.invariant.read ++ c.in_ok-item.item ∷ [];
+      grown = c.in_ok-push.ensures.items ∙ (ap (λ xs. xs ++ c.in_ok-item.item ∷ []) c.loop-at.invariant.grown ∙ append_assoc c.args.items.now.items c.loop-at.invariant.read (c.in_ok-item.item ∷ []));
+      leads = chain_turn g.I.TextItem.fits g.I.TextItem.tokens c.args.bytes.now (items_behind g.I.TextItem.tokens) c.args.at c.loop-at.invariant.read c.loop-at.next c.in_ok-item.after c.skip-next-in-loop-at.result c.in_ok-item.item
+          c.loop-at.invariant.leads c.loop-at.invariant.stop here.0 here.1 c.in_ok-item.ensures.ok c.skip-next-in-loop-at.ensures;
+      stop = (c.skip-next-in-loop-at.ensures.within, c.skip-next-in-loop-at.ensures.stops);
+    }
+
+pub returns-then-stands-clause-ok : goal.returns-then-stands-clause-ok
+returns-then-stands-clause-ok g c =
+    let here = c.stands-2.ensures.0 c.if-stands.true in
+    let found = LeadsTo-found (AllByRecursion g.I.TextItem.fits) (items_behind g.I.TextItem.tokens) (AllByRecursion g.I.TextItem.fits) (items_behind g.I.TextItem.tokens) (λ rest. c.loop-at.invariant.read ++ rest)
+    c.args.bytes.now c.args.at c.loop-at.next (c.loop-at.next + 1) [] c.loop-at.invariant.leads
+    (chain_closed g.I.TextItem.fits g.I.TextItem.tokens c.args.bytes.now c.loop-at.next c.loop-at.invariant.stop here.0 here.1) in (
+      c.loop-at.invariant.read,
+      c.loop-at.invariant.grown,
+      subst (λ xs. Found (AllByRecursion g.I.TextItem.fits) (items_behind g.I.TextItem.tokens) c.args.bytes.now c.args.at xs (c.loop-at.next + 1)) (append-nil c.loop-at.invariant.read) found,
+    )
+
+pub returns-else-stands-clause-err : goal.returns-else-stands-clause-err
+returns-else-stands-clause-err g c =
+    LeadsTo-missed (AllByRecursion g.I.TextItem.fits) (items_behind g.I.TextItem.tokens) (AllByRecursion g.I.TextItem.fits) (items_behind g.I.TextItem.tokens) (λ rest. c.loop-at.invariant.read ++ rest)
+    c.args.bytes.now c.args.at c.loop-at.next c.loop-at.next c.loop-at.invariant.leads
+    (chain_nothing g.I.TextItem.fits g.I.TextItem.tokens c.args.bytes.now c.loop-at.next c.loop-at.invariant.stop
+    (not_there c.stands.result c.args.bytes.now c.loop-at.next 44 c.loop-at-test.false c.stands.ensures.1)
+    (not_there c.stands-2.result c.args.bytes.now c.loop-at.next 93 c.if-stands.false c.stands-2.ensures.1))

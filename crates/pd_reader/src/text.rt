@@ -1,0 +1,116 @@
+//! The texts of diagrams and nets.
+
+ghost use Rattle.std.specs.Prelude.{◌≡◌, ◌≤◌, None, length, IfOk, IfErr, List, refl};
+ghost use Rattle.text_shapes.specs.Readers.{Found, Missed};
+ghost use Rattle.pd_reader.specs.Items.{item_labels, net_item_labels};
+ghost use Rattle.pd_reader.specs.Diagrams.{refusal};
+ghost use Rattle.pd_reader.specs.Texts.{IsTextItem, item_tokens, IsTextNetItem, net_item_tokens, IsPdText, IsNetText};
+ghost use Rattle.pd_reader.specs.Faults.{NamesByte};
+ghost use Rattle.pd_reader.specs.Answers.{IsPdRefusal, IsNetRefusal, Answers};
+ghost use Rattle.pd_reader.specs.declared.item.Item.{Item};
+ghost use Rattle.pd_reader.specs.declared.item.NetItem.{NetItem};
+
+use crate::call::read_call;
+use crate::diagram::{Diagram, NetDiagram};
+use crate::fault::{Stop, TextFault, fault_at};
+use crate::item::{Item, NetItem};
+use crate::list::{TextItem, read_text};
+use std::alloc::Global;
+
+impl TextItem for Item {
+    ghost fits = { IsTextItem };
+
+    ghost tokens = { item_tokens };
+
+    ghost begins_with_letter = { elim [ Item.X slots ↦ refl | Item.Loop label ↦ refl ] };
+
+    fn read(bytes: &[u8], at: usize) -> Result<(Item, usize), usize> {
+        let mut slots = [0; 4];
+        let p = match read_call(bytes, at, b"X", &mut slots) {
+            Ok(next) => return Ok((Item::X(slots), next)),
+            Err(p) => p,
+        };
+        let mut label = [0; 1];
+        let q = match read_call(bytes, at, b"Loop", &mut label) {
+            Ok(next) => return Ok((Item::Loop(label[0]), next)),
+            Err(q) => q,
+        };
+        Err(p.max(q))
+    }
+}
+
+impl TextItem for NetItem {
+    ghost fits = { IsTextNetItem };
+
+    ghost tokens = { net_item_tokens };
+
+    ghost begins_with_letter = { elim [ NetItem.X slots ↦ refl | NetItem.Y edges ↦ refl | NetItem.Loop label ↦ refl ] };
+
+    fn read(bytes: &[u8], at: usize) -> Result<(NetItem, usize), usize> {
+        let mut slots = [0; 4];
+        let p = match read_call(bytes, at, b"X", &mut slots) {
+            Ok(next) => return Ok((NetItem::X(slots), next)),
+            Err(p) => p,
+        };
+        let mut edges = [0; 3];
+        let q = match read_call(bytes, at, b"Y", &mut edges) {
+            Ok(next) => return Ok((NetItem::Y(edges), next)),
+            Err(q) => q,
+        };
+        let mut label = [0; 1];
+        let r = match read_call(bytes, at, b"Loop", &mut label) {
+            Ok(next) => return Ok((NetItem::Loop(label[0]), next)),
+            Err(r) => r,
+        };
+        Err(p.max(q).max(r))
+    }
+}
+
+/// The diagram that the bytes spell: `PD[item,..,item]` with any number of items `X[n,n,n,n]` and
+/// `Loop[n]`, which are KnotTheory's. A number is one to six decimal digits, the first not 0. White space
+/// may stand anywhere but inside a token.
+///
+/// Where the bytes are no such text, let p be the length of their longest beginning that also begins one.
+/// The refusal stands at byte p, from 0: `Head` where a letter stands there, `Number` where a digit does,
+/// and `Text` where another byte does or the input ends. `TooMany` holds 256 and comes past 256 items.
+/// `Label` holds the least label that doesn't stand twice, and how often it stands. `Memory` is want of
+/// memory.
+pub fn read_pd(alloc: Global, bytes: &[u8]) -> Result<Diagram, TextFault>
+    // What is read is what the text spells.
+    ensures read { IfOk result (λ diagram. IsPdText bytes.now diagram) }
+    // A text is read, or its items are refused for the first reason against them, or memory runs out.
+    ensures text { (items : List Item) → IsPdText bytes.now items → Answers (refusal item_labels items) items result }
+    // A refusal that names a place stands where the bytes stop being the beginning of a text, and any
+    // other but want of memory is of a text's items.
+    ensures refused { IfErr result (λ fault. IsPdRefusal bytes.now fault) }
+    // It is named by the byte there.
+    ensures named { IfErr result (λ fault. NamesByte bytes.now fault) }
+{
+    match read_text(alloc, bytes, b"PD") {
+        Ok(items) => Ok(Diagram::new(alloc, &items)?),
+        Err(Stop::At(at)) => Err(fault_at(bytes, at)),
+        Err(Stop::Memory) => Err(TextFault::Memory),
+    }
+}
+
+/// The net that the bytes spell: `Net[item,..,item]` with items `X[n,n,n,n]` and `Loop[n]` as in a
+/// diagram and `Y[n,n,n]`, a vertex with its edges counterclockwise (this project's own).
+///
+/// The refusals are those of `read_pd`.
+pub fn read_net(alloc: Global, bytes: &[u8]) -> Result<NetDiagram, TextFault>
+    // What is read is what the text spells.
+    ensures read { IfOk result (λ net. IsNetText bytes.now net) }
+    // A text is read, or its items are refused for the first reason against them, or memory runs out.
+    ensures text { (items : List NetItem) → IsNetText bytes.now items → Answers (refusal net_item_labels items) items result }
+    // A refusal that names a place stands where the bytes stop being the beginning of a text, and any
+    // other but want of memory is of a text's items.
+    ensures refused { IfErr result (λ fault. IsNetRefusal bytes.now fault) }
+    // It is named by the byte there.
+    ensures named { IfErr result (λ fault. NamesByte bytes.now fault) }
+{
+    match read_text(alloc, bytes, b"Net") {
+        Ok(items) => Ok(NetDiagram::new(alloc, &items)?),
+        Err(Stop::At(at)) => Err(fault_at(bytes, at)),
+        Err(Stop::Memory) => Err(TextFault::Memory),
+    }
+}
