@@ -5,4 +5,6 @@ pub mod Walks
 pub mod Rounds
 pub mod Representatives
 pub mod LeastNames
+pub mod LeastLabels
+pub mod Numbered
 mod Examples
