@@ -2,7 +2,7 @@
 -- join the same names.
 --
 -- Others cite: label_count-agree, label_count-swap, Agree-from_Joined, Agree-same_edges, eqb_from_iff, from_All, to_All.
-use Rattle.std.proofs.Common.{◌≡◌, ℕ, Bool, true, false, ◌||◌, ◌==◌, List, [], ◌∷◌, ◌++◌, map, refl, sym, ap, ◌∙◌, arith, ◌⊎◌, ⊎_elim, ◌↔◌, Contains}
+use Rattle.std.proofs.Common.{◌≡◌, ℕ, Bool, true, ◌==◌, List, [], ◌∷◌, ◌++◌, map, refl, sym, ap, ◌∙◌, arith, ◌⊎◌, ⊎_elim, ◌↔◌, Contains}
 use Rattle.std.specs.List.{AllPass}
 use Rattle.std.specs.Set.{is_member, distinct_count}
 use Rattle.std.proofs.lemmas.Bool.{or_left, or_right, eq-eqb, eqb-true, or_cases}

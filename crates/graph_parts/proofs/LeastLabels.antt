@@ -2,15 +2,18 @@
 -- labels of Labels.antt, no label is above its name, and a label's label is itself.
 --
 -- Others cite: least_name-label (a least name is the label), least_name-Joined (least names tell what is joined),
--- is_least-name (a name is the least of its part exactly where it is its own least name).
-use Rattle.std.proofs.Common.{◌≡◌, ℕ, ◌≤◌, true, ◌==◌, List, [], ◌∷◌, min, refl, sym, ◌∙◌, arith, ⊎_elim, ◌⊎◌, inl, inr, ◌↔◌, fold}
+-- is_least-label (a name is the least of its part exactly where it is its own label).
+use Rattle.std.proofs.Common.{ltb, ◌≡◌, ℕ, ◌≤◌, ◌<◌, true, ◌==◌, List, [], ◌∷◌, min, refl, sym, ◌∙◌, arith, ⊎_elim, ◌⊎◌, inl, inr, ◌↔◌, fold}
 use Rattle.std.specs.Set.{is_member}
-use Rattle.std.proofs.lemmas.Bool.{cases_order, eq-eqb, eqb-true, or_left, or_right, or_cases}
-use Rattle.std.proofs.lemmas.Bool.Decides.{nat_tests}
+use Rattle.std.proofs.lemmas.Bool.{cases_Bool, cases_order, ltb-true, lt-ltb, eq-eqb, eqb-true, or_left, or_right, or_cases}
+use Rattle.std.proofs.lemmas.Bool.Decides.{Decides-eqb, nat_tests}
+use Rattle.std.proofs.lemmas.List.Folds.{list_any_at, Any-from_list_any}
+use Rattle.std.proofs.lemmas.Map.Made.{is_member-Decides}
+use Rattle.std.specs.List.{list_any}
 use Rattle.graph_parts.specs.Ends.{AreAmong}
 use Rattle.graph_parts.specs.Labels.{label_of, label_after, relabel, Agree}
 use Rattle.graph_parts.specs.LeastNames.{least_name, least_label, join_least}
-use Rattle.graph_parts.specs.Parts.{part}
+use Rattle.graph_parts.specs.Parts.{part, is_least}
 use Rattle.graph_parts.specs.Walks.{Joined, stay}
 use Rattle.graph_parts.proofs.Rounds.{part-Joined}
 use Rattle.graph_parts.proofs.Walks.{labels-from_Joined, Joined-from_labels}
@@ -111,3 +114,27 @@ module _ (names : List ℕ) (edges : List (ℕ × ℕ)) (among : AreAmong names 
   least_name-Joined x y p q =
       let a = least_name-label x p in let b = least_name-label y q in
       (λ t. (least_label-Joined edges x y).0 (sym a ∙ t ∙ b), λ j. a ∙ (least_label-Joined edges x y).1 j ∙ sym b)
+
+  -- A NAME IS THE LEAST OF ITS PART WHERE IT IS ITS OWN LABEL
+  pub is_least-label : (x : ℕ) → is_member ◌==◌ names x ≡ true → is_least names edges x ≡ (least_label edges x == x)
+  is_least-label x there =
+      let l : ℕ → ℕ = least_label edges in
+      let rules = AreLeast-labels edges in
+      let ys = part names edges x in
+      ⊎_elim
+      (λ some.
+      let a = Any-from_list_any (λ y. ltb y x) ys some in
+      let lt : a.1 < x = ltb-true a.1 x a.4 in
+      let m = (is_member-Decides Decides-eqb ys a.1).1 (a.0, a.2, a.3) in
+      let same = (least_label-Joined edges x a.1).1 ((part-Joined names edges x a.1 there among).0 m) in
+      let below = rules.below a.1 in
+      let apart : l x < x = omega (arith, same, below, lt) in
+      grind (arith, nat_tests, some, apart))
+      (λ none.
+      let in_part = (part-Joined names edges x (l x) there among).1 ((least_label-Joined edges x (l x)).0 (sym (rules.itself x))) in
+      let c = (is_member-Decides Decides-eqb ys (l x)).0 in_part in
+      let no = λ (lt : l x < x). list_any_at (λ z. ltb z x) ys c.0 (l x) c.1 (let e = c.2 in let k = lt-ltb (l x) x lt in rw e k) in
+      let below = rules.below x in
+      let own : l x ≡ x = ⊎_elim (λ e. e) (λ o. ⊎_elim (λ lt. absurd (let t = no lt in grind (arith, t, none))) (λ gt. absurd (omega (arith, gt, below))) o) (cases_order (l x) x) in
+      grind (arith, nat_tests, none, own))
+      (cases_Bool (list_any (λ y. ltb y x) ys))

@@ -10,4 +10,5 @@ pub mod LeastLabels
 pub mod Numbered
 pub mod Renaming
 pub mod Through
+pub mod PartLaws
 mod Examples

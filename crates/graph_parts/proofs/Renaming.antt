@@ -8,7 +8,7 @@ use Rattle.std.specs.List.{AllPass}
 use Rattle.std.specs.Set.{is_member, distinct_count}
 use Rattle.std.proofs.lemmas.Bool.Decides.{nat_tests}
 use Rattle.std.proofs.lemmas.List.Elements.{All-head, All-tail}
-use Rattle.graph_parts.specs.Ends.{EndsAre, AreAmong}
+use Rattle.graph_parts.specs.Ends.{AreAmong}
 use Rattle.graph_parts.specs.Labels.{relabel, label_after, label_of, label_count, Agree}
 use Rattle.graph_parts.specs.Patterns.{first_like, label_pattern}
 use Rattle.graph_parts.specs.Renaming.{renamed, IsOneToOne}

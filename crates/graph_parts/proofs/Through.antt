@@ -7,11 +7,11 @@
 -- Others cite: label_count-through, Agree-pattern, inside-from_Joined.
 use Rattle.std.proofs.Common.{◌≡◌, ℕ, zero, suc, ◌+◌, Bool, true, false, cond, not, ◌||◌, ◌==◌, List, [], ◌∷◌, ◌++◌, map, zip, refl, sym, ap, ◌∙◌, arith, All, Contains, ◌⊎◌, inl, inr, ⊎_elim}
 use Rattle.std.specs.List.{AllPass}
-use Rattle.std.specs.Set.{is_member, distinct_count}
+use Rattle.std.specs.Set.{is_member}
 use Rattle.std.proofs.lemmas.Bool.{or_left, or_right, eq-eqb, eqb-true, cases_Bool, or_cases}
 use Rattle.std.proofs.lemmas.Bool.Decides.{nat_tests}
 use Rattle.std.proofs.lemmas.List.{map-append}
-use Rattle.std.proofs.lemmas.List.Elements.{All-head, All-tail, All-map, All-weaker, All-cons, All-nil, All-append}
+use Rattle.std.proofs.lemmas.List.Elements.{All-map, All-weaker, All-cons, All-nil, All-append}
 use Rattle.graph_parts.specs.Ends.{EndsAre, AreAmong}
 use Rattle.graph_parts.specs.Labels.{relabel, label_after, label_of, label_count, Agree}
 use Rattle.graph_parts.specs.Patterns.{first_like, label_pattern, label_closed}
@@ -173,4 +173,3 @@ label_count-through names others open_names es fs p q has meets =
     (to_All (is_outer names open_names) open_names (λ x m. or_left (is_member ◌==◌ open_names x) _ m)))
     ∙ sym (ap (λ k. label_count k (others ++ open_names)) (label_after-append (λ x. x) edges fs)) in
     omega (arith, swapped, lists, more, below, agree)
-
