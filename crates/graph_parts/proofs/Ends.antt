@@ -33,4 +33,3 @@ is_member-itself xs = All-is_member nat_eq_equiv xs
 
 pub is_member-get_or : (xs : List ℕ) (i : ℕ) → i < length xs → is_member ◌==◌ xs (slice_index xs i) ≡ true
 is_member-get_or xs i l = list_any_at (◌==◌ (slice_index xs i)) xs i 0 l (eq-eqb (slice_index xs i) (slice_index xs i) refl)
-

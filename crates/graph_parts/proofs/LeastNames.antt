@@ -20,7 +20,7 @@ use Rattle.graph_parts.proofs.Representatives.{length-AreRepresentatives}
 use Rattle.graph_parts.proofs.Rounds.{part-Joined, part-names}
 
 -- ---- names without repeats
-is_member-unique : (names : List ℕ) (x : ℕ) → is_member ◌==◌ (unique_keys ◌==◌ names) x ≡ is_member ◌==◌ names x
+pub is_member-unique : (names : List ℕ) (x : ℕ) → is_member ◌==◌ (unique_keys ◌==◌ names) x ≡ is_member ◌==◌ names x
 is_member-unique [] x = refl
 is_member-unique (y ∷ names) x =
     let ih = is_member-unique names x in
@@ -69,7 +69,7 @@ label_count-unique label (x ∷ names) =
       | false ↦ λ t. grind (arith, ih, e, f, m)
     ] refl
 
-AreAmong-unique : (names : List ℕ) (edges : List (ℕ × ℕ)) → AreAmong names edges → AreAmong (unique_keys ◌==◌ names) edges
+pub AreAmong-unique : (names : List ℕ) (edges : List (ℕ × ℕ)) → AreAmong names edges → AreAmong (unique_keys ◌==◌ names) edges
 AreAmong-unique names [] h = tt
 AreAmong-unique names (e ∷ edges) h = (is_member-unique names e.0 ∙ h.0, is_member-unique names e.1 ∙ h.1, AreAmong-unique names edges h.2)
 

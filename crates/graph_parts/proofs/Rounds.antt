@@ -16,7 +16,7 @@ use Rattle.graph_parts.specs.Ends.{AreAmong}
 use Rattle.graph_parts.specs.Parts.{leads_to, after_rounds, part}
 use Rattle.graph_parts.specs.Walks.{Joined, along, stay, back, on}
 
-count_by-cons : (R : ℕ → Bool) (x : ℕ) (xs : List ℕ) → count_by R (x ∷ xs) ≡ cond (R x) 1 0 + count_by R xs
+pub count_by-cons : (R : ℕ → Bool) (x : ℕ) (xs : List ℕ) → count_by R (x ∷ xs) ≡ cond (R x) 1 0 + count_by R xs
 count_by-cons R x xs = sum_by-cons (λ z. cond (R z) 1 0) x xs
 
 count_le : (R S : ℕ → Bool) (names : List ℕ) → ((z : ℕ) → R z ≡ true → S z ≡ true) → count_by R names ≤ count_by S names

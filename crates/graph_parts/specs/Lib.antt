@@ -1,6 +1,9 @@
 pub mod Parts
 pub mod Walks
 pub mod Ends
+pub mod Renaming
 pub mod Representatives
+pub mod LeastNames
+pub mod Patterns
 pub mod Labels
 pub mod Laws

@@ -1,8 +1,68 @@
-//! The laws of parts: each function has an empty body, and its contract is the law.
+//! The laws of parts: each function has an empty body, and its contract is the law. They are stated in `specs/Laws.antt`.
 
-ghost use Rattle.graph_parts.specs.Laws.{NoNamesLaw};
+ghost use Rattle.graph_parts.specs.Laws.{RoundsLaw, EquivalenceLaw, NoNamesLaw, JoinedEdgeLaw, ApartEdgeLaw, ContractionLaw, SameEdgesLaw, SameNamesLaw, RenamingLaw, DisjointUnionLaw, RepresentativesLaw, LeastNamesLaw, CountByLeastLaw};
+
+/// The part of a name is what walks along the edges join with it.
+pub fn parts_by_walks()
+    ensures { RoundsLaw }
+{}
+
+/// Being in one part is an equivalence of the names.
+pub fn equivalence()
+    ensures { EquivalenceLaw }
+{}
 
 /// A graph with no name has no part.
 pub fn no_names()
     ensures { NoNamesLaw }
+{}
+
+/// One more edge between joined names keeps the number of parts.
+pub fn joined_edge()
+    ensures { JoinedEdgeLaw }
+{}
+
+/// One more edge between names that are not joined lowers the number of parts by one.
+pub fn apart_edge()
+    ensures { ApartEdgeLaw }
+{}
+
+/// Two lists of edges that join the same names of a set are interchangeable under further edges between these names.
+pub fn contraction()
+    ensures { ContractionLaw }
+{}
+
+/// Order, direction and repetition of the edges do not matter.
+pub fn same_edges()
+    ensures { SameEdgesLaw }
+{}
+
+/// Order and repetition of the names do not matter.
+pub fn same_names()
+    ensures { SameNamesLaw }
+{}
+
+/// Other names, one to one, keep the number of parts.
+pub fn other_names()
+    ensures { RenamingLaw }
+{}
+
+/// Two graphs with no name in common have together as many parts as both.
+pub fn disjoint_union()
+    ensures { DisjointUnionLaw }
+{}
+
+/// There are as many parts as representatives, whichever are chosen.
+pub fn as_many_representatives()
+    ensures { RepresentativesLaw }
+{}
+
+/// Two names are joined exactly where the least names of their parts are one.
+pub fn least_names_tell()
+    ensures { LeastNamesLaw }
+{}
+
+/// There are as many parts as names that are the least of their part.
+pub fn count_by_least()
+    ensures { CountByLeastLaw }
 {}

@@ -1,0 +1,14 @@
+-- Other names for the same graph.
+--
+--     renamed rename edge            the edge between the new names
+--     IsOneToOne rename names        the new names of different names are different
+use Rattle.std.specs.Prelude.{◌≡◌, ℕ, ◌==◌, true, List}
+use Rattle.std.specs.Set.{is_member}
+
+-- The edge between the new names.
+abbrev pub renamed : (ℕ → ℕ) → ℕ × ℕ → ℕ × ℕ
+renamed rename edge = (rename edge.0, rename edge.1)
+
+-- The new names of different names are different.
+abbrev pub IsOneToOne : (ℕ → ℕ) → List ℕ → Type 0
+IsOneToOne rename names = (u v : ℕ) → is_member ◌==◌ names u ≡ true → is_member ◌==◌ names v ≡ true → rename u ≡ rename v → u ≡ v
