@@ -1,0 +1,41 @@
+//! The network of a diagram whose components all have colour 1.
+
+ghost use Rattle.std.specs.Prelude.{◌≡◌, ◌≤◌, IfOk, length};
+ghost use Rattle.skein_network.specs.Brackets.{bracket_network};
+
+use crate::crossing::crossing_node;
+use arc_pairing::{Network, NetworkFault};
+use pd_reader::{Diagram, Item};
+use root_quantum::Params;
+use std::alloc::{AllocError, Global};
+
+/// The network of the diagram with all colours 1: a node for each crossing, in the order of the items,
+/// and a free loop for each `Loop`.
+///
+/// The end of an edge with label l has the name 16 l. A node's group is its crossing's number, from 1.
+/// The only error is want of memory.
+pub fn bracket_network(
+    alloc: Global,
+    params: &Params,
+    diagram: &Diagram,
+) -> Result<Network, AllocError>
+    ensures { IfOk result (λ network. network ≡ bracket_network params.now diagram.now) }
+{
+    let mut nodes = Vec::new(alloc);
+    let mut free = 0;
+    for item in diagram.items() {
+        match item {
+            Item::X(slots) => {
+                let group = nodes.len() as u32 + 1;
+                nodes.push(crossing_node(alloc, params, group, slots)?)?;
+            }
+            Item::Loop(_) => free += 1,
+        }
+    }
+    match Network::new(alloc, nodes, free) {
+        Ok(network) => Ok(network),
+        Err(NetworkFault::TooMany { .. }) => unreachable!(),
+        Err(NetworkFault::Name { .. }) => unreachable!(),
+        Err(NetworkFault::Memory) => Err(AllocError),
+    }
+}
