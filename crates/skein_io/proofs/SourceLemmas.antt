@@ -4,8 +4,12 @@
 --     Takes-nothing    no bytes were taken
 --     Takes-more       one part after the other
 --     Takes-all        nothing is left behind them
-use Rattle.std.proofs.Common.{◌≡◌, ℕ, List, [], ◌++◌, Option, Some, None, IfSome, refl, sym, ap, ◌∙◌, subst, append_assoc, append-nil}
-use Rattle.skein_io.specs.Source.{Takes}
+--     TakesExactly-told
+--                      where limit + 1 bytes were taken, more than limit were left
+--     TakesExactly-piece, TakesAtMost-piece, IsSuffix-piece
+--                      the first places of a buffer, behind what was taken before
+use Rattle.std.proofs.Common.{◌≡◌, ℕ, ◌+◌, ◌<◌, ◌≤◌, List, [], ◌++◌, length, take, Option, Some, None, IfSome, refl, sym, ap, ◌∙◌, subst, append_assoc, append-nil, length-append, length-take-le, arith}
+use Rattle.skein_io.specs.Source.{Takes, TakesExactly, TakesAtMost, IsSuffix}
 
 pub Takes-nothing : (left : Option (List ℕ)) → Takes left [] left
 Takes-nothing None = refl
@@ -24,3 +28,24 @@ Takes-all None xs b taken none_left = tt
 Takes-all (Some bytes) xs b taken none_left =
     let none : taken.0 ≡ [] = subst (λ (o : Option (List ℕ)). IfSome o (λ left. left ≡ [])) taken.2 none_left in
     sym (taken.1 ∙ ap (λ (z : List ℕ). xs ++ z) none ∙ append-nil xs)
+
+pub TakesExactly-told : (P : Type 0) (limit : ℕ) (a c : Option (List ℕ))
+    → TakesExactly (limit + 1) a c → IfSome a (λ left. P → limit < length left)
+TakesExactly-told P limit None c takes = tt
+TakesExactly-told P limit (Some left) c takes = λ _.
+    let parts : length left ≡ length takes.0 + length takes.2.0 = ap length takes.2.1 ∙ length-append takes.0 takes.2.0 in
+    omega (arith, parts, takes.1)
+
+module _ (a b c : Option (List ℕ)) (xs buffer : List ℕ) (count : ℕ) (in_range : count ≤ length buffer)
+    (before : Takes a xs b) (piece : Takes b (take count buffer) c) where
+  length-piece : length (xs ++ take count buffer) ≡ length xs + count
+  length-piece = length-append xs (take count buffer) ∙ ap (λ (n : ℕ). length xs + n) (length-take-le count buffer in_range)
+
+  pub TakesExactly-piece : (n : ℕ) → length xs + count ≡ n → TakesExactly n a c
+  TakesExactly-piece n exactly = (xs ++ take count buffer, length-piece ∙ exactly, Takes-more a xs b (take count buffer) c before piece)
+
+  pub TakesAtMost-piece : (n : ℕ) → length xs + count ≤ n → TakesAtMost n a c
+  TakesAtMost-piece n at_most = (xs ++ take count buffer, omega (arith, length-piece, at_most), Takes-more a xs b (take count buffer) c before piece)
+
+  pub IsSuffix-piece : IsSuffix c a
+  IsSuffix-piece = (xs ++ take count buffer, Takes-more a xs b (take count buffer) c before piece)

@@ -74,6 +74,8 @@ pub fn read_all<S: Source>(alloc: Global, source: &mut S, limit: usize) -> Resul
         → TakesExactly (limit + 1) (S.left source.old) (S.left source.new) }
     ensures too_long_no_fault { (given : ℕ) → result ≡ Err (ReadAll.TooLong given)
         → S.faults source.new ≡ S.faults source.old }
+    ensures too_long { IfSome (S.left source.old) (λ left.
+        result ≡ Err (ReadAll.TooLong limit) → limit < length left) }
     ensures long { IfSome (S.left source.old) (λ left. limit < length left
         → result ≢ Err ReadAll.Fault → result ≢ Err ReadAll.Memory
         → result ≡ Err (ReadAll.TooLong limit)) }

@@ -21,7 +21,8 @@ pub trait Sink {
         requires { 0 < length piece.now }
         ensures some { IfOk result (λ count. 0 < count) }
         ensures within { IfOk result (λ count. count ≤ length piece.now) }
-        ensures appended { IfOk result (λ count. Appends (taken self.old) (take count piece.now) (taken self.new)) }
+        ensures appended { IfOk result (λ count.
+            Appends (taken self.old) (take count piece.now) (taken self.new)) }
         ensures no_fault { OnOk result (faults self.new ≡ faults self.old) }
         ensures fault { OnErr result (Rose (faults self.old) (faults self.new)) }
         ensures none_appended { OnErr result (taken self.new ≡ taken self.old) }
