@@ -7,4 +7,5 @@ pub mod Modulo
 pub mod PowerLemmas
 pub mod SignedPowers
 pub mod Unities
+pub mod OrderSearch
 pub mod LawProofs

@@ -1,3 +1,4 @@
 mod QuantumSteps
 mod TwistSteps
 pub mod LawProofs
+pub mod RefusalProofs
