@@ -9,3 +9,4 @@ pub mod SignedPowers
 pub mod Unities
 pub mod OrderSearch
 pub mod LawProofs
+mod Examples

@@ -2,3 +2,4 @@ mod QuantumSteps
 mod TwistSteps
 pub mod LawProofs
 pub mod RefusalProofs
+mod Examples
