@@ -2,6 +2,7 @@
 -- whole number by a multiple of m.
 use Rattle.std.proofs.Common.{◌≡◌, ◌+◌, ◌-◌, ◌*◌, ◌%◌, ◌<◌, ◌≤◌, pos, neg_ℤ, ◌+ℤ◌, ◌-ℤ◌, ◌*ℤ◌, [], ◌∷◌, ℕ, refl, arith}
 use Rattle.ring_identities.specs.Residues.{residue}
+use Rattle.ring_identities.proofs.Congruences.{residue_below}
 use Rattle.ring_identities.proofs.Modulo.{modulos, by_residue, by_residue_below}
 
 pub sum_within : (m x y : ℕ) → x + y < m → x + y ≡ residue m (pos x +ℤ pos y)
@@ -29,3 +30,6 @@ negative_within m x h b =
 
 pub product_remainder : (m x y : ℕ) → 0 < m → (x * y) % m ≡ residue m (pos x *ℤ pos y)
 product_remainder m x y h = by_residue 0 (pos x ∷ pos y ∷ []) (search modulos depth 30) (search modulos depth 30) h tt refl
+
+-- what the check is given at the goals of the four operations
+pub ruleset remainders = (residue_below, sum_within, sum_past, difference_within, difference_past, negative_of_zero, negative_within, product_remainder)

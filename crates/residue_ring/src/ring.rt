@@ -58,6 +58,7 @@ impl Ring {
     }
 
     /// The residue of x + y.
+    #[tactic(auto, using(crate::proofs::Remainders::remainders))]
     pub fn add(&self, x: u64, y: u64) -> u64
         requires x_below { x < self.now }
         requires y_below { y < self.now }
@@ -70,6 +71,7 @@ impl Ring {
     }
 
     /// The residue of x - y.
+    #[tactic(auto, using(crate::proofs::Remainders::remainders))]
     pub fn sub(&self, x: u64, y: u64) -> u64
         requires x_below { x < self.now }
         requires y_below { y < self.now }
@@ -81,6 +83,7 @@ impl Ring {
     }
 
     /// The residue of -x.
+    #[tactic(auto, using(crate::proofs::Remainders::remainders))]
     pub fn neg(&self, x: u64) -> u64
         requires { x < self.now }
         ensures negative { result ≡ residue self.now (neg_ℤ (pos x)) }
@@ -90,6 +93,7 @@ impl Ring {
     }
 
     /// The residue of x y.
+    #[tactic(auto, using(crate::proofs::Remainders::remainders))]
     pub fn mul(&self, x: u64, y: u64) -> u64
         requires x_below { x < self.now }
         requires y_below { y < self.now }

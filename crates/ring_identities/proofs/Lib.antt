@@ -7,4 +7,6 @@ pub mod Modulo
 pub mod PowerLemmas
 pub mod SignedPowers
 pub mod Unities
+pub mod OrderSearch
 pub mod LawProofs
+mod Examples

@@ -8,7 +8,9 @@
 --     IsUnity m x t        x^t is 1 modulo m
 --     IsOrder m x t        t is the least number of at least 1 with x^t = 1 modulo m: 20 for x = 2 and m = 41
 --     IsOrderUpTo m x n o  o is that number where it is at most n, and None where it isn't
-use Rattle.std.specs.Prelude.{◌≡◌, ℕ, zero, suc, ◌<◌, ◌≤◌, ℤ, pos, negsuc, ◌*ℤ◌, neg_ℤ, Option, MatchOption}
+--     order_up_to m x n    that o, by trying each exponent: it computes at small numbers
+use Rattle.std.specs.Prelude.{◌≡◌, ℕ, zero, suc, ◌<◌, ◌≤◌, ℤ, pos, negsuc, ◌*ℤ◌, neg_ℤ, Option, Some, None, MatchOption, ◌==◌, if◌then◌else◌}
+use Rattle.std.specs.Option.{option_or}
 use Rattle.ring_identities.specs.Residues.{residue}
 
 -- z to the power n
@@ -43,3 +45,9 @@ pub record IsOrder (m x t : ℕ) : Type 0 where
 abbrev pub IsOrderUpTo : ℕ → ℕ → ℕ → Option ℕ → Type 0
 IsOrderUpTo m x limit found =
     MatchOption found ((t : ℕ) → 1 ≤ t → t ≤ limit → ¬ IsUnity m x t) (λ t. (t ≤ limit) × IsOrder m x t)
+
+-- the same, by trying each exponent
+unfoldable pub order_up_to : ℕ → ℕ → ℕ → Option ℕ
+order_up_to m x zero = None
+order_up_to m x (suc n) =
+    option_or (order_up_to m x n) (if residue m (power (pos x) (suc n)) == 1 then Some (suc n) else None)

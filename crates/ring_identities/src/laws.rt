@@ -1,5 +1,5 @@
 // Laws over the definitions alone: functions with empty bodies, each with its theorem.
-ghost use Rattle.ring_identities.specs.Laws.{ResidueInRange, ResidueCongruent, SameResidues, ResidueOfNatural, InverseUnique, PowerModOrder, UnityAtMultiples, SignedPowerSum};
+ghost use Rattle.ring_identities.specs.Laws.{ResidueInRange, ResidueCongruent, SameResidues, ResidueOfNatural, InverseUnique, PowerModOrder, UnityAtMultiples, OrderUpTo, SignedPowerSum};
 
 /// Residues modulo m are below m.
 pub fn residue_in_range()
@@ -34,6 +34,11 @@ pub fn power_mod_order()
 /// Where t is the order of x, x^n is 1 exactly where t divides n.
 pub fn unity_at_multiples()
     ensures { UnityAtMultiples }
+{}
+
+/// Trying each exponent up to a limit finds the order where it is within it, and else nothing.
+pub fn order_up_to_limit()
+    ensures { OrderUpTo }
 {}
 
 /// Exponents of either sign add up, where x has an inverse.

@@ -1,3 +1,5 @@
 mod QuantumSteps
 mod TwistSteps
 pub mod LawProofs
+pub mod RefusalProofs
+mod Examples

@@ -6,10 +6,13 @@
 --     DeltaFirst, DeltaNext    Delta_0 = 1, Delta_1 = delta, Delta_(n+2) = delta Delta_(n+1) - Delta_n
 --     DeltaSquare              Delta_(n+1)^2 - Delta_(n+2) Delta_n = 1
 --     TwistNone, TwistOne      mu_n^0 = 1, and mu_1 = -A^3
+--     Accepted, Refused        `refusal` is None exactly at parameters, and else the fault
 --     TwistSum                 mu_n^s mu_n^t = mu_n^(s+t)
-use Rattle.std.specs.Prelude.{◌≡◌, ℕ, suc, ℤ, pos, ◌+ℤ◌, ◌-ℤ◌, ◌*ℤ◌, neg_ℤ}
+use Rattle.std.specs.Prelude.{◌≡◌, ◌↔◌, Some, None, ℕ, suc, ℤ, pos, ◌+ℤ◌, ◌-ℤ◌, ◌*ℤ◌, neg_ℤ}
 use Rattle.ring_identities.specs.Residues.{Congruent}
-use Rattle.root_quantum.specs.Parameters.{Parameters}
+use Rattle.root_quantum.specs.Parameters.{Parameters, IsParameters}
+use Rattle.root_quantum.specs.Refusals.{IsRefused, refusal}
+use Rattle.root_quantum.specs.declared.fault.ParamFault.{ParamFault}
 use Rattle.root_quantum.specs.QuantumNumbers.{inverse_root, loop_value, delta, twist}
 
 abbrev pub RootTimesInverse : Type 0
@@ -40,3 +43,9 @@ TwistOne =
 abbrev pub TwistSum : Type 0
 TwistSum =
     (p : Parameters) (n : ℕ) (s t : ℤ) → Congruent p.modulus (pos (twist p n s) *ℤ pos (twist p n t)) (pos (twist p n (s +ℤ t)))
+
+abbrev pub Accepted : Type 0
+Accepted = (m a r : ℕ) → IsParameters m a r ↔ (refusal m a r ≡ None)
+
+abbrev pub Refused : Type 0
+Refused = (m a r : ℕ) (fault : ParamFault) → IsRefused m a r fault ↔ (refusal m a r ≡ Some fault)

@@ -1,5 +1,5 @@
 // Laws over the definitions alone, for all parameters: functions with empty bodies, each with its theorem.
-ghost use Rattle.root_quantum.specs.Laws.{RootTimesInverse, LoopValue, DeltaFirst, DeltaNext, DeltaSquare, TwistNone, TwistOne, TwistSum};
+ghost use Rattle.root_quantum.specs.Laws.{RootTimesInverse, LoopValue, DeltaFirst, DeltaNext, DeltaSquare, TwistNone, TwistOne, TwistSum, Accepted, Refused};
 
 /// A times A^-1 is 1.
 pub fn root_times_inverse()
@@ -39,4 +39,14 @@ pub fn twist_one()
 /// `mu_n` to the power s times `mu_n` to the power t is `mu_n` to the power s + t, for whole s and t.
 pub fn twist_sum()
     ensures { TwistSum }
+{}
+
+/// The refusal that computes is none exactly where m, A and r are parameters.
+pub fn accepted()
+    ensures { Accepted }
+{}
+
+/// The refusal that computes is the first of the conditions that fails.
+pub fn refused()
+    ensures { Refused }
 {}
