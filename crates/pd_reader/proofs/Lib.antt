@@ -4,3 +4,5 @@ mod StopLemmas
 mod ItemCalls
 mod TextTokens
 mod Readings
+mod Written
+mod TorusLabels
