@@ -6,3 +6,4 @@ mod TextTokens
 mod Readings
 mod Written
 mod TorusLabels
+mod ReadsBack

@@ -5,3 +5,4 @@ pub mod Faults
 pub mod Stops
 pub mod Answers
 pub mod Torus
+pub mod Laws

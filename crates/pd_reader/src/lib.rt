@@ -7,6 +7,7 @@ mod diagram;
 mod fault;
 mod item;
 mod label;
+pub mod laws;
 mod list;
 mod scan;
 mod text;
