@@ -2,11 +2,11 @@
 -- against the items.
 use Rattle.std.proofs.Common.{inl, inr, ◌≡◌, ℕ, ◌≤◌, ◌<◌, ltb, Bool, true, false, cond, length, Option, Some, None, option_map, arith, List, [], ◌∷◌, ◌++◌, refl, sym, ap, ◌∙◌, append_assoc, append-nil}
 use Rattle.std.specs.List.{AllByRecursion}
-use Rattle.std.proofs.lemmas.Bool.{cases_Bool, ltb-false}
+use Rattle.std.proofs.lemmas.Bool.{cases_Bool, ltb-false, le-ltb}
 use Rattle.pd_reader.specs.declared.fault.DiagramFault.{DiagramFault}
 use Rattle.pd_reader.specs.declared.fault.DiagramFault.TheVariants as faults
 use Rattle.pd_reader.specs.Diagrams.{labels, times, least_unpaired, refusal, IsLabel, IsPaired}
-use Rattle.pd_reader.proofs.Least.{each_stands_twice}
+use Rattle.pd_reader.proofs.Least.{each_stands_twice, none_is_unpaired}
 
 pub labels-push : {I : Type 0} (labels_of : I → List ℕ) (xs : List I) (x : I) → labels labels_of (xs ++ x ∷ []) ≡ labels labels_of xs ++ labels_of x
 labels-push labels_of [] x = append-nil (labels_of x)
@@ -33,3 +33,8 @@ module _ {I : Type 0} (labels_of : I → List ℕ) where
           twice = each_stands_twice (labels labels_of items) (no_label items (least_unpaired (labels labels_of items)) (rw few at e));
         }
       ]
+
+  pub paired_is_unrefused : (has_size : I → Type 0) (items : List I) → IsPaired labels_of has_size items → refusal labels_of items ≡ None
+  paired_is_unrefused has_size items h =
+      let few : ltb 256 (length items) ≡ false = le-ltb 256 (length items) h.few in
+      rw (few, none_is_unpaired (labels labels_of items) h.twice) refl

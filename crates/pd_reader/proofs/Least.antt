@@ -3,7 +3,7 @@
 --
 --     least_among ls front     the least label of the front that doesn't stand twice in ls
 use Rattle.std.proofs.Common.{inl, inr, ◌≡◌, ℕ, ◌+◌, ◌<◌, ◌≤◌, ◌==◌, eqb, Bool, true, false, not, cond, min, List, [], ◌∷◌, ◌++◌, length, take, get_or, append-nil, filter, Option, Some, None, option_map, unwrap_or, refl, sym, ap, ◌∙◌, arith}
-use Rattle.std.proofs.lemmas.Bool.{cases_Bool, eqb-true}
+use Rattle.std.proofs.lemmas.Bool.{cases_Bool, eqb-true, eq-eqb}
 use Rattle.std.proofs.lemmas.List.Elements.{filter-append}
 use Rattle.std.specs.List.{AllByRecursion}
 use Rattle.pd_reader.specs.Diagrams.{times, least, least_unpaired}
@@ -61,3 +61,11 @@ all_twice ls (n ∷ ns) h = (by_test (eqb (times n ls) 2) refl h.0, all_twice ls
 -- no label is left out: each stands twice
 pub each_stands_twice : (ls : List ℕ) → least_unpaired ls ≡ None → AllByRecursion (λ n. times n ls ≡ 2) ls
 each_stands_twice ls e = all_twice ls ls (none_left (is_unpaired ls) ls (least-none (filter (is_unpaired ls) ls) e))
+
+none_kept : (ls ns : List ℕ) → AllByRecursion (λ n. times n ls ≡ 2) ns → filter (is_unpaired ls) ns ≡ []
+none_kept ls [] h = refl
+none_kept ls (n ∷ ns) h = let even : is_unpaired ls n ≡ false = rw (eq-eqb (times n ls) 2 h.0) refl in rw even (none_kept ls ns h.1)
+
+-- where each label stands twice, none is left out
+pub none_is_unpaired : (ls : List ℕ) → AllByRecursion (λ n. times n ls ≡ 2) ls → least_unpaired ls ≡ None
+none_is_unpaired ls h = ap least (none_kept ls ls h)

@@ -4,3 +4,6 @@ mod StopLemmas
 mod ItemCalls
 mod TextTokens
 mod Readings
+mod Written
+mod TorusLabels
+mod ReadsBack

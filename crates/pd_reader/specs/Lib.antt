@@ -4,3 +4,5 @@ pub mod Texts
 pub mod Faults
 pub mod Stops
 pub mod Answers
+pub mod Torus
+pub mod Laws

@@ -3,10 +3,11 @@
 --
 --     IsPdText bytes items          the bytes are a text of these items
 --     IsNetText bytes items         the same for a net
---     IsPdRefusal, IsNetRefusal     the fault stands where the bytes stop being the beginning of a
---                                   text, and is named by the byte there
+--     written items                 the canonical spelling of a diagram
+--
+-- "PD[Loop[1]]" is written (Loop 1 ∷ []), and " PD [ Loop[1] ]" is another text of these items.
 use Rattle.std.specs.Prelude.{◌≡◌, ℕ, ◌<◌, List, [], ◌∷◌, ◌++◌, length, codes, decimal}
-use Rattle.std.specs.List.{AllByRecursion}
+use Rattle.std.specs.List.{AllByRecursion, concat}
 use Rattle.std.proofs.Common.{lit<}
 use Rattle.pd_reader.specs.declared.item.Item.{Item}
 use Rattle.pd_reader.specs.declared.item.Item.TheVariants as items
@@ -60,3 +61,7 @@ IsPdText = IsText (AllByRecursion IsTextItem) pd_tokens
 
 abbrev pub IsNetText : List ℕ → List NetItem → Type 0
 IsNetText = IsText (AllByRecursion IsTextNetItem) net_tokens
+
+-- the canonical spelling of a diagram: its tokens with nothing between them
+abbrev pub written : List Item → List ℕ
+written items = concat (pd_tokens items)

@@ -17,7 +17,7 @@ use std::marker::Model;
 /// Contracts see a diagram as the list of its items. `IsDiagram` says what each such list keeps.
 #[derive(Drop, Debug)]
 pub struct Diagram {
-    items: Vec<Item>,
+    pub(crate) items: Vec<Item>,
 }
 
 impl Model for Diagram {

@@ -1,9 +1,12 @@
 //! Items of diagrams and nets.
 
-ghost use Rattle.std.specs.Prelude.{◌≡◌, ◌+◌, ◌≤◌, ◌++◌, length, List, ℕ, OnOk, vec_len};
+ghost use Rattle.std.specs.Prelude.{◌≡◌, ◌+◌, ◌≤◌, ◌++◌, length, List, ℕ, OnOk, Some, vec_len};
+ghost use Rattle.std.specs.List.{concat};
+ghost use Rattle.pd_reader.specs.Texts.{item_tokens};
 ghost use Rattle.pd_reader.specs.Items.{item_labels, net_item_labels, HasItsSlots, HasItsEdges};
 
 use std::alloc::AllocError;
+use std::fmt;
 
 /// An item of a link diagram. A label is a whole number of at least 1 that names an edge.
 #[derive(Clone, Copy, Debug, PartialEq, Eq)]
@@ -25,6 +28,18 @@ pub enum NetItem {
     Y([u32; 3]),
     /// A closed curve without crossings, as in a diagram.
     Loop(u32),
+}
+
+/// As in a text: `X[1,4,2,5]`, `Loop[3]`.
+impl fmt::Display for Item {
+    ghost output = { λ item. Some (concat (item_tokens item)) };
+
+    fn fmt<W: fmt::Write>(&self, f: &mut fmt::Formatter<W>) -> fmt::Result {
+        match self {
+            Item::X([a, b, c, d]) => write!(f, "X[{a},{b},{c},{d}]"),
+            Item::Loop(label) => write!(f, "Loop[{label}]"),
+        }
+    }
 }
 
 /// What labels stand at: a crossing has four, a vertex three, and a loop its label twice.

@@ -7,9 +7,12 @@ mod diagram;
 mod fault;
 mod item;
 mod label;
+pub mod laws;
 mod list;
 mod scan;
 mod text;
+mod torus_link;
+mod write;
 
 pub use call::{Argument, read_call};
 pub use diagram::{Diagram, NetDiagram};
@@ -18,3 +21,5 @@ pub use item::{Item, NetItem};
 pub use list::{TextItem, read_behind, read_list, read_text};
 pub use scan::{agree, finish, mark, number, skip, stands, word};
 pub use text::{read_net, read_pd};
+pub use torus_link::torus;
+pub use write::write_pd;

@@ -13,3 +13,4 @@ pub mod Lists
 pub mod Slots
 pub mod Marked
 pub mod TokenLists
+pub mod Spellings

@@ -2,3 +2,4 @@ pub mod Tokens
 pub mod Shapes
 pub mod Reach
 pub mod Readers
+pub mod Laws

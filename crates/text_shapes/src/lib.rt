@@ -1,3 +1,5 @@
 //! Texts of a shape: tokens with white space before, between and after them, how far an input is the
 //! beginning of one, and the lemmas with which each reader is proved.
 #![tactic(auto)]
+
+pub mod laws;

@@ -1,0 +1,15 @@
+//! Laws over the definitions alone: the facts that these functions ensure, which do nothing.
+
+ghost use Rattle.pd_reader.specs.Laws.{DiagramsAreUnrefused, WrittenIsRead};
+
+/// There is no reason against the items of a diagram or a net. So `Diagram::new` answers them with a
+/// diagram, or memory runs out, and a text of them is read.
+pub fn diagrams_are_unrefused()
+    ensures { DiagramsAreUnrefused }
+{}
+
+/// Where each label of a diagram is at most 999,999, its canonical spelling is a text of it. So
+/// `read_pd` of what `write_pd` wrote gives the same diagram, or memory runs out.
+pub fn written_is_read()
+    ensures { WrittenIsRead }
+{}
