@@ -1,4 +1,7 @@
 pub mod Sums
 pub mod StateEdges
 pub mod StateSums
+pub mod Congruent
+pub mod Coefficients
+pub mod LabelSums
 mod Examples
