@@ -4,4 +4,6 @@ pub mod StateSums
 pub mod Congruent
 pub mod Coefficients
 pub mod LabelSums
+pub mod Replacing
+pub mod GluedSums
 mod Examples
