@@ -91,7 +91,7 @@ within_labels l names others h =
     All-map (λ z. is_member ◌==◌ (map l others) z ≡ true) l names
     (All-weaker (λ x. is_member ◌==◌ names x ≡ true) (λ x. is_member ◌==◌ (map l others) (l x) ≡ true) (λ x m. is_member-map l others x (h x m)) names (is_member-itself names))
 
-label_count-same_names : (l : ℕ → ℕ) (names others : List ℕ) → ((x : ℕ) → is_member ◌==◌ names x ≡ is_member ◌==◌ others x) → label_count l names ≡ label_count l others
+pub label_count-same_names : (l : ℕ → ℕ) (names others : List ℕ) → ((x : ℕ) → is_member ◌==◌ names x ≡ is_member ◌==◌ others x) → label_count l names ≡ label_count l others
 label_count-same_names l names others h =
     let a = distinct_count-le_from_within (map l names) (map l others) (within_labels l names others (λ x m. sym (h x) ∙ m)) in
     let b = distinct_count-le_from_within (map l others) (map l names) (within_labels l others names (λ x m. h x ∙ m)) in

@@ -6,4 +6,9 @@ pub mod Coefficients
 pub mod LabelSums
 pub mod Replacing
 pub mod GluedSums
+pub mod DisjointSums
+pub mod NodeNames
+pub mod NodeOrder
+pub mod Arcs
+pub mod Moves
 mod Examples
