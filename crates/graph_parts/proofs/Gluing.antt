@@ -6,7 +6,7 @@ use Rattle.std.proofs.Common.{◌≡◌, ℕ, ◌+◌, true, ◌==◌, List, ◌
 use Rattle.std.specs.List.{AllPass}
 use Rattle.std.specs.Set.{is_member}
 use Rattle.std.proofs.lemmas.List.Elements.{All-map, All-weaker}
-use Rattle.graph_parts.specs.Ends.{EndsAre, AreAmong}
+use Rattle.graph_parts.specs.Ends.{AreAmong}
 use Rattle.graph_parts.specs.Labels.{label_of, Agree}
 use Rattle.graph_parts.specs.Patterns.{label_pattern, label_closed}
 use Rattle.graph_parts.proofs.Agreement.{label_count-agree}

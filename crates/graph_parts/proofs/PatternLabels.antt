@@ -1,11 +1,10 @@
 -- Patterns and closed parts, by labels.
 --
 -- Others cite: pattern-labels, closed_parts-labels, label_pattern-among (a pattern has open names only).
-use Rattle.std.proofs.Common.{◌≡◌, ℕ, suc, ◌-◌, Bool, true, false, cond, ◌==◌, List, [], ◌∷◌, map, refl, sym, ap, ◌∙◌, arith, ⊎_elim}
+use Rattle.std.proofs.Common.{◌≡◌, ℕ, suc, ◌-◌, Bool, true, false, cond, ◌==◌, List, [], ◌∷◌, refl, sym, ap, ◌∙◌, arith}
 use Rattle.std.specs.List.{AllPass}
 use Rattle.std.specs.Set.{is_member, distinct_count}
-use Rattle.std.proofs.lemmas.Bool.{eq-eqb, eqb-true, or_cases, or_left, or_right}
-use Rattle.std.proofs.lemmas.Bool.Decides.{nat_tests}
+use Rattle.std.proofs.lemmas.Bool.{eq-eqb, eqb-true}
 use Rattle.std.proofs.lemmas.List.Elements.{All-map, All-weaker}
 use Rattle.graph_parts.specs.Ends.{AreAmong}
 use Rattle.graph_parts.specs.Labels.{label_of, label_count, Agree}
@@ -57,7 +56,7 @@ module _ (names : List ℕ) (edges : List (ℕ × ℕ)) (among : AreAmong names 
       let l : ℕ → ℕ = label_of edges in
       let first : ℕ → ℕ = first_like l open_names in
       let alike : Agree (is_member ◌==◌ open_names) first l =
-          λ u v p q. eqb_from_iff (first u) (first v) (l u) (l v) (λ e. sym (first_like_label l open_names u) ∙ ap l e ∙ first_like_label l open_names v) (λ e. first_like_same l open_names u v e p) in
+      λ u v p q. eqb_from_iff (first u) (first v) (l u) (l v) (λ e. sym (first_like_label l open_names u) ∙ ap l e ∙ first_like_label l open_names v) (λ e. first_like_same l open_names u v e p) in
       ap (λ n. n - distinct_count ◌==◌ (pattern names edges open_names)) (part_count-labels names edges among)
       ∙ ap (λ xs. label_count l names - distinct_count ◌==◌ xs) (pattern-labels open_names has)
       ∙ ap (λ n. label_count l names - n) (label_count-agree (is_member ◌==◌ open_names) first l open_names alike (is_member-itself open_names))

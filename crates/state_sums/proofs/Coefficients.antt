@@ -1,7 +1,7 @@
 -- Sums over states that agree at each pattern agree for every worth of the patterns.
 --
 -- Others cite: grouped, and of this crate's words SameEverywhere-from_worth and worth-from_SameEverywhere.
-use Rattle.std.proofs.Common.{Bool, ◌++◌, length, map, get_or, ◌≡◌, ℕ, ◌+◌, ◌*◌, ◌^◌, ◌%◌, true, false, cond, List, [], ◌∷◌, mul_assoc, sum_by, refl, sym, ap, ◌∙◌, arith, All}
+use Rattle.std.proofs.Common.{Bool, ◌++◌, map, get_or, ◌≡◌, ℕ, ◌+◌, ◌*◌, ◌^◌, ◌%◌, true, false, cond, List, [], ◌∷◌, mul_assoc, sum_by, refl, sym, ap, ◌∙◌, arith, All}
 use Rattle.std.specs.List.{list_any}
 use Rattle.std.proofs.lemmas.Bool.{or_left, or_right}
 use Rattle.std.proofs.lemmas.List.Sums.{sum_by-cons}
@@ -11,8 +11,8 @@ use Rattle.std.proofs.lemmas.List.Folds.{list_any_at, list_any-append}
 use Rattle.std.proofs.lemmas.Slice.Eq.{bytes_eq-Decides}
 use Rattle.std.specs.Str.{bytes_eq}
 use Rattle.graph_parts.specs.Patterns.{pattern, closed_parts}
-use Rattle.state_sums.specs.LocalSums.{pattern_sum, coefficient, SameEverywhere}
-use Rattle.state_sums.specs.Networks.{Node, Network, Term, names_of}
+use Rattle.state_sums.specs.LocalSums.{pattern_sum, SameEverywhere}
+use Rattle.state_sums.specs.Networks.{Network, Term, names_of}
 use Rattle.state_sums.specs.StateSums.{states, state_edges, state_weight}
 use Rattle.state_sums.proofs.Congruent.{add_same_mod, mul_same_mod}
 use Rattle.state_sums.proofs.StateEdges.{sum_by_all}

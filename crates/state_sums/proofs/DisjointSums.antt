@@ -5,14 +5,13 @@ use Rattle.std.proofs.Common.{◌≡◌, ℕ, ◌+◌, ◌*◌, ◌^◌, true, f
 use Rattle.std.specs.Set.{is_member}
 use Rattle.std.proofs.Math.Pow.{pow-add}
 use Rattle.std.proofs.lemmas.List.Concat.{flat_map-append}
-use Rattle.graph_parts.specs.Ends.{AreAmong}
 use Rattle.graph_parts.specs.Parts.{part_count}
 use Rattle.graph_parts.proofs.PartLaws.{disjoint_union}
 use Rattle.state_sums.specs.Networks.{Node, names_of}
 use Rattle.state_sums.specs.StateSums.{state_sum}
 use Rattle.state_sums.proofs.StateEdges.{HavePlaces, total_same}
 use Rattle.state_sums.proofs.StateSums.{state_sum-nested}
-use Rattle.state_sums.proofs.Sums.{total, total-append, total-times, total_cong}
+use Rattle.state_sums.proofs.Sums.{total, total-append, total-times}
 
 power_both : (d n c k f g : ℕ) → n ≡ c + k → d ^ (n + (f + g)) ≡ d ^ (c + f) * d ^ (k + g)
 power_both d n c k f g e = let t : n + (f + g) ≡ (c + f) + (k + g) = omega arith in ap (λ i. d ^ i) t ∙ pow-add d (c + f) (k + g)

@@ -4,26 +4,28 @@
 --     glued_worth delta rest more inner outer worth found     what the rest comes to where a pattern's edges stand in for
 --                                                             the nodes, and outer names are left open
 --
--- Others cite: pattern_sum-glue, kept_under_nodes.
-use Rattle.std.proofs.Common.{◌≡◌, ℕ, ◌+◌, ◌*◌, ◌^◌, ◌%◌, true, ◌==◌, ◌||◌, List, ◌++◌, zip, sym, ap, ◌∙◌, arith, mul_assoc}
+-- Others cite: pattern_sum-glue (by labels), pattern_sum-rest (by parts), kept_under_nodes.
+use Rattle.std.proofs.Common.{◌≡◌, ℕ, ◌+◌, ◌*◌, ◌^◌, ◌%◌, true, ◌==◌, List, ◌++◌, zip, sym, ap, ◌∙◌, arith, mul_assoc}
 use Rattle.std.specs.List.{AllPass}
 use Rattle.std.specs.Set.{is_member}
 use Rattle.std.proofs.Math.Pow.{pow-add}
-use Rattle.std.proofs.lemmas.Bool.{or_left, or_right, or_cases}
+use Rattle.std.proofs.lemmas.Bool.{or_left, or_right}
 use Rattle.std.proofs.lemmas.List.Concat.{flat_map-append}
 use Rattle.std.proofs.lemmas.List.Elements.{All-weaker}
 use Rattle.graph_parts.specs.Ends.{AreAmong}
-use Rattle.graph_parts.specs.Patterns.{label_pattern, label_closed}
+use Rattle.graph_parts.specs.Patterns.{pattern, closed_parts, label_pattern, label_closed}
 use Rattle.graph_parts.proofs.Agreement.{from_All}
 use Rattle.graph_parts.proofs.Distinct.{is_member-append}
+use Rattle.graph_parts.proofs.Ends.{EndsAre-append, EndsAre-weaker, EndsAre-zip, is_member-itself}
+use Rattle.graph_parts.proofs.PatternLabels.{pattern-labels, closed_parts-labels, label_pattern-among}
 use Rattle.graph_parts.proofs.Gluing.{label_pattern-glue, label_closed-glue}
-use Rattle.state_sums.specs.LocalSums.{pattern_sum, SameEverywhere, IsCut}
+use Rattle.state_sums.specs.LocalSums.{pattern_sum, rest_sum, SameEverywhere, IsCut}
 use Rattle.state_sums.specs.Networks.{Node, Network, names_of}
 use Rattle.state_sums.proofs.Coefficients.{SameEverywhere-from_worth, worth-from_SameEverywhere}
 use Rattle.state_sums.proofs.LabelSums.{label_weighed, pattern_sum-labels}
 use Rattle.state_sums.proofs.Replacing.{HavePlaces-append}
 use Rattle.state_sums.proofs.StateEdges.{HavePlaces, total_same}
-use Rattle.state_sums.proofs.Sums.{total, total-append, total-times}
+use Rattle.state_sums.proofs.Sums.{total, total_is, total-append, total-times}
 
 abbrev pub glued_worth : ℕ → List Node → ℕ → List ℕ → List ℕ → (List ℕ → ℕ) → List ℕ → ℕ
 glued_worth delta rest more inner outer worth found =
@@ -85,3 +87,36 @@ kept_under_nodes m delta inner outer old new rest more old_ok new_ok rest_ok old
     ap (λ n. n % m) (pattern_sum-glue delta old.nodes rest inner outer old.free_loops more worth old_ok rest_ok old_cut left)
     ∙ worth-from_SameEverywhere m delta inner old new same (glued_worth delta rest more inner outer worth)
     ∙ sym (ap (λ n. n % m) (pattern_sum-glue delta new.nodes rest inner outer new.free_loops more worth new_ok rest_ok new_cut left)))
+
+-- GLUING
+pub pattern_sum-rest : (delta : ℕ) (nodes rest : List Node) (inner outer : List ℕ) (free more : ℕ) (worth : List ℕ → ℕ) → HavePlaces nodes → HavePlaces rest → IsCut nodes rest inner →
+    AllPass (is_member ◌==◌ (names_of rest ++ inner)) outer →
+    pattern_sum delta record { nodes = nodes ++ rest; free_loops = free + more } outer worth
+    ≡ pattern_sum delta record { nodes = nodes; free_loops = free } inner (rest_sum delta rest more inner outer worth)
+pattern_sum-rest delta nodes rest inner outer free more worth nodes_ok rest_ok cut left =
+    let others = names_of rest in
+    let by_labels : List ℕ → ℕ = glued_worth delta rest more inner outer worth in
+    let by_parts : List ℕ → ℕ = rest_sum delta rest more inner outer worth in
+    let one : (found : List ℕ) → AllPass (is_member ◌==◌ inner) found → by_labels found ≡ by_parts found =
+    λ found has.
+    let part : List (ℕ × ℕ) → ℕ = λ fs.
+    delta ^ (closed_parts (others ++ inner) (zip inner found ++ fs) outer + more) * worth (pattern (others ++ inner) (zip inner found ++ fs) outer) in
+    total_same rest rest_ok
+    (λ fs. delta ^ (label_closed (zip inner found ++ fs) (others ++ inner) outer + more) * worth (label_pattern (zip inner found ++ fs) outer)) part
+    (λ fs q.
+    let test = is_member ◌==◌ (others ++ inner) in
+    let in_inner : (x : ℕ) → is_member ◌==◌ inner x ≡ true → is_member ◌==◌ (others ++ inner) x ≡ true =
+    λ x m. is_member-append others inner x ∙ or_right (is_member ◌==◌ others x) (is_member ◌==◌ inner x) m in
+    let in_others : (x : ℕ) → is_member ◌==◌ others x ≡ true → is_member ◌==◌ (others ++ inner) x ≡ true =
+    λ x m. is_member-append others inner x ∙ or_left (is_member ◌==◌ others x) (is_member ◌==◌ inner x) m in
+    let among = EndsAre-append test (zip inner found) fs
+    (EndsAre-weaker (is_member ◌==◌ inner) test in_inner (zip inner found) (EndsAre-zip (is_member ◌==◌ inner) inner found (is_member-itself inner) has))
+    (EndsAre-weaker (is_member ◌==◌ others) test in_others fs q) in
+    ap (λ n. delta ^ (n + more) * worth (label_pattern (zip inner found ++ fs) outer)) (sym (closed_parts-labels (others ++ inner) (zip inner found ++ fs) among outer left))
+    ∙ ap (λ p. delta ^ (closed_parts (others ++ inner) (zip inner found ++ fs) outer + more) * worth p) (sym (pattern-labels (others ++ inner) (zip inner found ++ fs) among outer left)))
+    ∙ sym (total_is rest part) in
+    pattern_sum-glue delta nodes rest inner outer free more worth nodes_ok rest_ok cut left
+    ∙ pattern_sum-labels delta nodes free inner by_labels nodes_ok cut.has_open
+    ∙ total_same nodes nodes_ok (label_weighed delta nodes free inner by_labels) (label_weighed delta nodes free inner by_parts)
+    (λ es p. ap (λ n. delta ^ (label_closed es (names_of nodes) inner + free) * n) (one (label_pattern es inner) (label_pattern-among es inner)))
+    ∙ sym (pattern_sum-labels delta nodes free inner by_parts nodes_ok cut.has_open)

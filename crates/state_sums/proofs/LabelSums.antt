@@ -3,7 +3,7 @@
 --     label_weighed delta nodes free open_names worth es     what a state with these edges counts, by labels
 --
 -- Others cite: pattern_sum-labels.
-use Rattle.std.proofs.Common.{◌≡◌, ℕ, ◌+◌, ◌*◌, ◌^◌, ◌==◌, List, sym, ap, ◌∙◌}
+use Rattle.std.proofs.Common.{◌≡◌, ℕ, ◌+◌, ◌*◌, ◌^◌, ◌==◌, List, ap, ◌∙◌}
 use Rattle.std.specs.List.{AllPass}
 use Rattle.std.specs.Set.{is_member}
 use Rattle.graph_parts.specs.Patterns.{pattern, closed_parts, label_pattern, label_closed}

@@ -11,4 +11,6 @@ pub mod NodeNames
 pub mod NodeOrder
 pub mod Arcs
 pub mod Moves
+pub mod Cuts
+pub mod NetworkLaws
 mod Examples

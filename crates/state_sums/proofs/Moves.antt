@@ -1,14 +1,14 @@
 -- Reidemeister's moves on crossings that are written out: sums over all states are computed, and what is left is an equation
 -- modulo m in a, b and delta.
 --
--- Others cite: curl, second_move, third_move.
+-- Others cite: curl_move, bigon_move, triangle_move.
 use Rattle.std.proofs.Common.{◌≡◌, ℕ, ◌+◌, ◌*◌, ◌%◌, true, List, [], ◌∷◌, refl, sym, ap, ◌∙◌, arith}
 use Rattle.std.specs.List.{list_all}
 use Rattle.std.proofs.lemmas.List.Sums.{AllPass-from_list_all}
 use Rattle.std.specs.Set.{is_member}
 use Rattle.std.specs.Prelude.{◌==◌}
-use Rattle.state_sums.specs.LocalSums.{pattern_sum, SameEverywhere, arc, weighted_arc, crossing, AreSkeinNumbers}
-use Rattle.state_sums.specs.Networks.{Node, Network, names_of}
+use Rattle.state_sums.specs.LocalSums.{SameEverywhere, arc, weighted_arc, crossing, AreSkeinNumbers}
+use Rattle.state_sums.specs.Networks.{Node, names_of}
 use Rattle.state_sums.proofs.Coefficients.{SameEverywhere-from_worth}
 use Rattle.state_sums.proofs.Congruent.{pow_0, pow_1, congruent_by}
 use Rattle.state_sums.proofs.LabelSums.{label_weighed, pattern_sum-labels}
@@ -31,18 +31,18 @@ cubed : (m a b delta : ℕ) → AreSkeinNumbers m a b delta → (a * delta + b +
 cubed m a b delta numbers = congruent_by m _ _ 1 (a * b) (delta + a * a + b * b) 0 b a (sym numbers.inverse) numbers.loop (omega arith)
 
 -- ---- the curl, with its factor -a^3
-pub curl : (m a b delta w : ℕ) → AreSkeinNumbers m a b delta → (w + a * a * a) % m ≡ 0 % m →
+pub curl_move : (m a b delta w : ℕ) → AreSkeinNumbers m a b delta → (w + a * a * a) % m ≡ 0 % m →
     SameEverywhere m delta (0 ∷ 1 ∷ []) record { nodes = crossing a b 1 0 2 2 ∷ []; free_loops = 0 } record { nodes = weighted_arc w 0 1 ∷ []; free_loops = 0 }
-curl m a b delta w numbers factor =
+curl_move m a b delta w numbers factor =
     alike m delta (0 ∷ 1 ∷ []) (crossing a b 1 0 2 2 ∷ []) (weighted_arc w 0 1 ∷ []) refl refl refl refl
     (λ worth.
     let plain = worth (0 ∷ 0 ∷ []) in
     congruent_by m _ _ (a * delta + b + a * a * a) 0 0 (w + a * a * a) plain plain (cubed m a b delta numbers) (sym factor) (simp (pow_0, pow_1) (omega arith)))
 
 -- ---- the second move
-pub second_move : (m a b delta : ℕ) → AreSkeinNumbers m a b delta →
+pub bigon_move : (m a b delta : ℕ) → AreSkeinNumbers m a b delta →
     SameEverywhere m delta (0 ∷ 1 ∷ 2 ∷ 3 ∷ []) record { nodes = crossing a b 5 0 3 4 ∷ crossing a b 2 1 5 4 ∷ []; free_loops = 0 } record { nodes = arc 0 1 ∷ arc 2 3 ∷ []; free_loops = 0 }
-second_move m a b delta numbers =
+bigon_move m a b delta numbers =
     alike m delta (0 ∷ 1 ∷ 2 ∷ 3 ∷ []) (crossing a b 5 0 3 4 ∷ crossing a b 2 1 5 4 ∷ []) (arc 0 1 ∷ arc 2 3 ∷ []) refl refl refl refl
     (λ worth.
     let across = worth (0 ∷ 0 ∷ 2 ∷ 2 ∷ []) in
@@ -59,9 +59,9 @@ below_crossing a b = crossing a b 6 0 1 7 ∷ crossing a b 8 7 2 3 ∷ crossing 
 abbrev pub above_crossing : ℕ → ℕ → List Node
 above_crossing a b = crossing a b 6 1 2 7 ∷ crossing a b 5 0 6 8 ∷ crossing a b 4 8 7 3 ∷ []
 
-pub third_move : (m a b delta : ℕ) → AreSkeinNumbers m a b delta →
+pub triangle_move : (m a b delta : ℕ) → AreSkeinNumbers m a b delta →
     SameEverywhere m delta (0 ∷ 1 ∷ 2 ∷ 3 ∷ 4 ∷ 5 ∷ []) record { nodes = below_crossing a b; free_loops = 0 } record { nodes = above_crossing a b; free_loops = 0 }
-third_move m a b delta numbers =
+triangle_move m a b delta numbers =
     let six : List ℕ = 0 ∷ 1 ∷ 2 ∷ 3 ∷ 4 ∷ 5 ∷ [] in
     alike m delta six (below_crossing a b) (above_crossing a b) refl refl refl refl
     (λ worth.

@@ -2,16 +2,14 @@
 -- one to one.
 --
 -- Others cite: HavePlaces-rename, total-rename, names_of-rename, state_sum-rename, pattern_sum-rename, SameEverywhere-rename.
-use Rattle.std.proofs.Common.{◌≡◌, ℕ, ◌+◌, ◌*◌, ◌^◌, ◌<◌, ◌%◌, true, ◌==◌, List, [], ◌∷◌, ◌++◌, map, length, slice_index, zip, refl, sym, ap, ◌∙◌, arith, All, subst}
+use Rattle.std.proofs.Common.{◌≡◌, ℕ, ◌+◌, ◌*◌, ◌^◌, ◌<◌, ◌%◌, true, ◌==◌, List, [], ◌∷◌, ◌++◌, map, length, slice_index, zip, refl, sym, ap, ◌∙◌, All, subst}
 use Rattle.std.specs.List.{AllPass}
 use Rattle.std.specs.Set.{is_member}
 use Rattle.std.proofs.lemmas.List.{map-append, get_or-map, length-map}
 use Rattle.std.proofs.lemmas.List.Elements.{All-head, All-tail, All-map, All-weaker}
-use Rattle.graph_parts.specs.Ends.{AreAmong}
 use Rattle.graph_parts.specs.Labels.{label_of, label_count, label_after}
-use Rattle.graph_parts.specs.Patterns.{label_pattern, label_closed}
 use Rattle.graph_parts.specs.Renaming.{renamed, IsOneToOne}
-use Rattle.graph_parts.proofs.Agreement.{label_count-agree, from_All}
+use Rattle.graph_parts.proofs.Agreement.{label_count-agree}
 use Rattle.graph_parts.proofs.Counting.{is_member-map}
 use Rattle.graph_parts.proofs.Renaming.{zip_map, label_count-map, label_count-renamed, Agree-renamed, label_pattern-map}
 use Rattle.state_sums.specs.LocalSums.{rename, pattern_sum, SameEverywhere}

@@ -2,7 +2,7 @@
 -- and every order is reached so.
 --
 -- Others cite: total-exchange, label_sum-moved, state_sum-permuted.
-use Rattle.std.proofs.Common.{◌≡◌, ℕ, ◌+◌, ◌*◌, ◌^◌, ◌||◌, ◌==◌, List, [], ◌∷◌, ◌++◌, zero, suc, ◌<◌, length, get_or, set, sum_by, Contains, refl, sym, ap, ◌∙◌, arith, mul-add, ◌⊎◌, inl, ⊎_elim, append_assoc}
+use Rattle.std.proofs.Common.{◌≡◌, ℕ, ◌+◌, ◌*◌, ◌^◌, ◌==◌, List, [], ◌∷◌, ◌++◌, zero, suc, ◌<◌, length, get_or, set, sum_by, Contains, refl, sym, ap, ◌∙◌, arith, mul-add, ◌⊎◌, inl, ⊎_elim, append_assoc}
 use Rattle.std.specs.Set.{is_member}
 use Rattle.std.proofs.lemmas.List.Concat.{flat_map-append}
 use Rattle.std.proofs.lemmas.List.Elements.{Contains-append_left, Contains-append_right, Contains-append_cases}

@@ -4,8 +4,7 @@
 --     rest_worth delta rest more open_names found     what the rest comes to where a pattern's edges stand in for the nodes
 --
 -- Others cite: state_sum-through, replacement.
-use Rattle.std.proofs.Common.{◌≡◌, ℕ, ◌+◌, ◌*◌, ◌^◌, ◌%◌, true, ◌==◌, List, ◌++◌, zip, sym, ap, ◌∙◌, arith}
-use Rattle.std.specs.Set.{is_member}
+use Rattle.std.proofs.Common.{◌≡◌, ℕ, ◌+◌, ◌*◌, ◌^◌, ◌%◌, List, ◌++◌, zip, sym, ap, ◌∙◌, arith}
 use Rattle.std.proofs.Math.Pow.{pow-add}
 use Rattle.std.proofs.lemmas.List.Concat.{flat_map-append}
 use Rattle.std.proofs.lemmas.List.Elements.{All-append}

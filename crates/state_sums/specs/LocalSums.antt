@@ -7,17 +7,20 @@
 --     coefficient delta piece open_names wanted         the same, over the states with the wanted pattern
 --     SameEverywhere m delta open_names old new         modulo m the two pieces have one coefficient at each pattern
 --     IsCut nodes rest open_names                       the nodes meet the rest in open names alone, and have each of these
+--     open_of nodes                                     the names that stand once in the nodes
+--     rest_sum delta rest more inner outer worth found  what the rest comes to where the edges of a found pattern of the
+--                                                       inner open names stand in for a piece, and outer names are open
 --     rename new_name nodes                             the nodes with other names
 --     arc x y                                           a node with one pair and the weight 1: it makes x and y one
 --     weighted_arc w x y                                the same with the weight w
 --     crossing a b w x y z                              a crossing: weight a on the pairs wx and yz, weight b on wz and xy
 --     AreSkeinNumbers m a b delta                       b is the inverse of a, and delta is -a^2 - b^2, modulo m
 use Rattle.std.specs.Prelude.{◌≡◌, ℕ, ◌+◌, ◌*◌, ◌^◌, ◌%◌, ◌==◌, if◌then◌else◌, true, List, [], ◌∷◌, ◌++◌, map}
-use Rattle.std.specs.List.{sum_by, AllPass}
+use Rattle.std.specs.List.{sum_by, AllPass, filter, zip}
 use Rattle.std.specs.Set.{is_member}
 use Rattle.std.specs.Str.{bytes_eq}
 use Rattle.graph_parts.specs.Patterns.{pattern, closed_parts}
-use Rattle.state_sums.specs.Networks.{Node, Network, names_of}
+use Rattle.state_sums.specs.Networks.{Node, Network, names_of, times_in}
 use Rattle.state_sums.specs.StateSums.{states, state_edges, state_weight}
 
 -- Over all states, where a pattern of the open names counts as the worth says.
@@ -42,6 +45,21 @@ pub record SameEverywhere (m delta : ℕ) (open_names : List ℕ) (old new : Net
 pub record IsCut (nodes rest : List Node) (open_names : List ℕ) : Type 0 where
   pub has_open : AllPass (is_member ◌==◌ (names_of nodes)) open_names
   pub meets : (x : ℕ) → is_member ◌==◌ (names_of rest) x ≡ true → is_member ◌==◌ (names_of nodes) x ≡ true → is_member ◌==◌ open_names x ≡ true
+
+-- The names that stand once.
+abbrev pub open_of : List Node → List ℕ
+open_of nodes = filter (λ x. times_in (names_of nodes) x == 1) (names_of nodes)
+
+-- Over the states of the rest, where the edges from each inner open name to its fellow in the found pattern stand in for a
+-- piece.
+abbrev pub rest_sum : ℕ → List Node → ℕ → List ℕ → List ℕ → (List ℕ → ℕ) → List ℕ → ℕ
+rest_sum delta rest more inner outer worth found =
+    sum_by
+    (λ state.
+    state_weight state
+    * (delta ^ (closed_parts (names_of rest ++ inner) (zip inner found ++ state_edges rest state) outer + more)
+    * worth (pattern (names_of rest ++ inner) (zip inner found ++ state_edges rest state) outer)))
+    (states rest)
 
 -- The nodes with other names.
 abbrev pub rename : (ℕ → ℕ) → List Node → List Node
