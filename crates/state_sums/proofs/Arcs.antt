@@ -5,8 +5,8 @@ use Rattle.std.proofs.Common.{◌≡◌, ℕ, ◌+◌, ◌^◌, true, ◌==◌, 
 use Rattle.std.specs.Set.{is_member}
 use Rattle.std.proofs.lemmas.Bool.Decides.{nat_tests}
 use Rattle.graph_parts.specs.Ends.{AreAmong}
-use Rattle.graph_parts.specs.Labels.{turned, relabel, label_after, label_of, label_count, Agree}
-use Rattle.graph_parts.specs.Renaming.{renamed}
+use Rattle.graph_parts.specs.Labels.{relabel, label_after, label_of, label_count, Agree}
+use Rattle.graph_parts.specs.Renaming.{renamed, turned}
 use Rattle.graph_parts.proofs.Agreement.{label_count-agree}
 use Rattle.graph_parts.proofs.Counting.{Agree-after, distinct_count-cons, is_member-map}
 use Rattle.graph_parts.proofs.Ends.{is_member-itself}

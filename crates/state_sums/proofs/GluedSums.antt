@@ -9,14 +9,13 @@ use Rattle.std.proofs.Common.{◌≡◌, ℕ, ◌+◌, ◌*◌, ◌^◌, ◌%◌
 use Rattle.std.specs.List.{AllPass}
 use Rattle.std.specs.Set.{is_member}
 use Rattle.std.proofs.Math.Pow.{pow-add}
-use Rattle.std.proofs.lemmas.Bool.{or_left, or_right}
 use Rattle.std.proofs.lemmas.List.Concat.{flat_map-append}
 use Rattle.std.proofs.lemmas.List.Elements.{All-weaker}
 use Rattle.graph_parts.specs.Ends.{AreAmong}
 use Rattle.graph_parts.specs.Patterns.{pattern, closed_parts, label_pattern, label_closed}
 use Rattle.graph_parts.proofs.Agreement.{from_All}
 use Rattle.graph_parts.proofs.Distinct.{is_member-append}
-use Rattle.graph_parts.proofs.Ends.{EndsAre-append, EndsAre-weaker, EndsAre-zip, is_member-itself}
+use Rattle.graph_parts.proofs.PartLaws.{AreAmong-glued}
 use Rattle.graph_parts.proofs.PatternLabels.{pattern-labels, closed_parts-labels, label_pattern-among}
 use Rattle.graph_parts.proofs.Gluing.{label_pattern-glue, label_closed-glue}
 use Rattle.state_sums.specs.LocalSums.{pattern_sum, rest_sum, SameEverywhere, IsCut}
@@ -104,14 +103,7 @@ pattern_sum-rest delta nodes rest inner outer free more worth nodes_ok rest_ok c
     total_same rest rest_ok
     (λ fs. delta ^ (label_closed (zip inner found ++ fs) (others ++ inner) outer + more) * worth (label_pattern (zip inner found ++ fs) outer)) part
     (λ fs q.
-    let test = is_member ◌==◌ (others ++ inner) in
-    let in_inner : (x : ℕ) → is_member ◌==◌ inner x ≡ true → is_member ◌==◌ (others ++ inner) x ≡ true =
-    λ x m. is_member-append others inner x ∙ or_right (is_member ◌==◌ others x) (is_member ◌==◌ inner x) m in
-    let in_others : (x : ℕ) → is_member ◌==◌ others x ≡ true → is_member ◌==◌ (others ++ inner) x ≡ true =
-    λ x m. is_member-append others inner x ∙ or_left (is_member ◌==◌ others x) (is_member ◌==◌ inner x) m in
-    let among = EndsAre-append test (zip inner found) fs
-    (EndsAre-weaker (is_member ◌==◌ inner) test in_inner (zip inner found) (EndsAre-zip (is_member ◌==◌ inner) inner found (is_member-itself inner) has))
-    (EndsAre-weaker (is_member ◌==◌ others) test in_others fs q) in
+    let among = AreAmong-glued others inner found fs has q in
     ap (λ n. delta ^ (n + more) * worth (label_pattern (zip inner found ++ fs) outer)) (sym (closed_parts-labels (others ++ inner) (zip inner found ++ fs) among outer left))
     ∙ ap (λ p. delta ^ (closed_parts (others ++ inner) (zip inner found ++ fs) outer + more) * worth p) (sym (pattern-labels (others ++ inner) (zip inner found ++ fs) among outer left)))
     ∙ sym (total_is rest part) in

@@ -2,8 +2,7 @@
 use Rattle.std.specs.Prelude.{◌≡◌, ℕ, ◌+◌, ◌*◌, ◌%◌, ◌^◌, ◌≤◌, ◌==◌, true, false, List, [], ◌∷◌, ◌++◌, map, IsPermutation}
 use Rattle.std.specs.List.{All, AllPass}
 use Rattle.std.specs.Set.{is_member}
-use Rattle.graph_parts.specs.Labels.{turned}
-use Rattle.graph_parts.specs.Renaming.{IsOneToOne}
+use Rattle.graph_parts.specs.Renaming.{IsOneToOne, turned}
 use Rattle.state_sums.specs.LocalSums.{pattern_sum, rest_sum, SameEverywhere, IsCut, open_of, rename, arc, weighted_arc, crossing, AreSkeinNumbers}
 use Rattle.state_sums.specs.Networks.{Node, Network, IsNode, names_of, times_in}
 use Rattle.state_sums.specs.StateSums.{value}
@@ -86,21 +85,27 @@ LocalRenamingLaw =
     SameEverywhere m delta (map new_name open_names) record { nodes = rename new_name old.nodes; free_loops = old.free_loops }
     record { nodes = rename new_name new.nodes; free_loops = new.free_loops }
 
--- A curl multiplies by -a^3: w is any number with w + a^3 = 0 modulo m. With a and b exchanged it is the other curl, with
+-- The curl multiplies by -a^3: w is any number with w + a^3 = 0 modulo m. With a and b exchanged it is the other curl, with
 -- the factor -b^3.
 --
---      0   1                  0   1
---       \ /                   |   |
---        X[1,0,2,2]       =   '---'  times w
---       ( )
---        2
+--     0     1            0   1
+--       \ /              |   |
+--        \         =     '---'  times w
+--       / \
+--      '-2-'
 abbrev pub CurlLaw : Type 0
 CurlLaw =
     (m a b delta w : ℕ) → AreSkeinNumbers m a b delta → (w + a * a * a) % m ≡ 0 % m →
     SameEverywhere m delta (0 ∷ 1 ∷ []) record { nodes = crossing a b 1 0 2 2 ∷ []; free_loops = 0 } record { nodes = weighted_arc w 0 1 ∷ []; free_loops = 0 }
 
--- The second move: a strand from 0 over 4 to 1 is pulled off a strand from 3 under 5 to 2. With a and b exchanged it is the
--- mirror image, where the first strand lies below.
+-- The second move: the strand from 0 by 4 to 1 is pulled off the strand from 3 by 5 to 2, over which it lies. With a and b
+-- exchanged it is the mirror image, where it lies below.
+--
+--          0       1                0       1
+--          |       |                '-------'
+--     3 -- | --5-- | -- 2      =
+--          |       |                3 ----- 2
+--          '---4---'
 abbrev pub SecondMoveLaw : Type 0
 SecondMoveLaw =
     (m a b delta : ℕ) → AreSkeinNumbers m a b delta →
