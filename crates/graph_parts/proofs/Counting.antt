@@ -8,8 +8,9 @@ use Rattle.std.proofs.Common.{◌≡◌, ℕ, ◌+◌, Bool, true, false, cond, 
 use Rattle.std.proofs.lemmas.Bool.Decides.{nat_tests}
 use Rattle.std.proofs.lemmas.List.Sums.{fold-append}
 use Rattle.std.specs.Set.{is_member, distinct_count, unique_keys}
+use Rattle.graph_parts.specs.Renaming.{turned}
 use Rattle.graph_parts.specs.Ends.{EndsAre, AreAmong}
-use Rattle.graph_parts.specs.Labels.{turned, relabel, label_after, label_of, label_count, Agree}
+use Rattle.graph_parts.specs.Labels.{relabel, label_after, label_of, label_count, Agree}
 
 pub distinct_count-cons : (x : ℕ) (xs : List ℕ) → distinct_count ◌==◌ (x ∷ xs) ≡ cond (is_member ◌==◌ xs x) 0 1 + distinct_count ◌==◌ xs
 distinct_count-cons x xs = elim (is_member ◌==◌ xs x) as (λ b. length (cond b (unique_keys ◌==◌ xs) (x ∷ unique_keys ◌==◌ xs)) ≡ cond b 0 1 + distinct_count ◌==◌ xs) [ true ↦ omega arith | false ↦ omega arith ]

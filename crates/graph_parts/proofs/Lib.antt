@@ -10,5 +10,7 @@ pub mod LeastLabels
 pub mod Numbered
 pub mod Renaming
 pub mod Through
+pub mod PatternLabels
+pub mod Gluing
 pub mod PartLaws
 mod Examples

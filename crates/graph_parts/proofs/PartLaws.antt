@@ -1,7 +1,7 @@
 -- The laws of parts, from those of labels and walks.
 --
 -- Others cite: each by the name of its function in src/laws.rt.
-use Rattle.std.proofs.Common.{◌≡◌, ℕ, ◌+◌, Bool, true, cond, ◌==◌, List, [], ◌∷◌, ◌++◌, map, refl, sym, ap, ◌∙◌, arith, ◌⊎◌, ⊎_elim, inl, append-nil, Contains, count_by}
+use Rattle.std.proofs.Common.{zip, ◌≡◌, ℕ, ◌+◌, Bool, true, cond, ◌==◌, List, [], ◌∷◌, ◌++◌, map, refl, sym, ap, ◌∙◌, arith, ◌⊎◌, ⊎_elim, inl, append-nil, Contains, count_by}
 use Rattle.std.specs.List.{AllPass}
 use Rattle.std.specs.Set.{is_member, unique_keys}
 use Rattle.std.proofs.lemmas.Bool.{eq-eqb, eqb-true, cases_Bool, or_left, or_right}
@@ -9,14 +9,17 @@ use Rattle.std.proofs.lemmas.List.Elements.{All-map, All-weaker, All-nil, Contai
 use Rattle.graph_parts.proofs.Distinct.{is_member-append, distinct_count-le_from_within}
 use Rattle.graph_parts.specs.Ends.{AreAmong}
 use Rattle.graph_parts.specs.Labels.{label_of, label_count}
-use Rattle.graph_parts.specs.Laws.{RoundsLaw, EquivalenceLaw, NoNamesLaw, JoinedEdgeLaw, ApartEdgeLaw, ContractionLaw, SameEdgesLaw, SameNamesLaw, RenamingLaw, DisjointUnionLaw, RepresentativesLaw, LeastNamesLaw, CountByLeastLaw}
+use Rattle.graph_parts.specs.Laws.{RoundsLaw, EquivalenceLaw, NoNamesLaw, JoinedEdgeLaw, ApartEdgeLaw, ContractionLaw, SameEdgesLaw, SameNamesLaw, RenamingLaw, DisjointUnionLaw, RepresentativesLaw, LeastNamesLaw, CountByLeastLaw, PatternGluingLaw, ClosedGluingLaw}
 use Rattle.graph_parts.specs.LeastNames.{least_name}
 use Rattle.graph_parts.specs.Parts.{is_least, part_count}
+use Rattle.graph_parts.specs.Patterns.{pattern, closed_parts, label_pattern}
 use Rattle.graph_parts.specs.Renaming.{renamed}
 use Rattle.graph_parts.specs.Walks.{stay, back, on}
-use Rattle.graph_parts.proofs.Agreement.{label_count-agree, Agree-from_Joined, Agree-same_edges}
+use Rattle.graph_parts.proofs.Agreement.{label_count-agree, Agree-from_Joined, Agree-same_edges, from_All}
 use Rattle.graph_parts.proofs.Counting.{label_count-relabel, label_count-contract, label_after-append, is_member-map}
-use Rattle.graph_parts.proofs.Ends.{EndsAre-append, EndsAre-weaker, is_member-itself}
+use Rattle.graph_parts.proofs.Ends.{EndsAre-append, EndsAre-weaker, EndsAre-zip, is_member-itself}
+use Rattle.graph_parts.proofs.Gluing.{label_pattern-glue, label_closed-glue}
+use Rattle.graph_parts.proofs.PatternLabels.{pattern-labels, closed_parts-labels, label_pattern-among}
 use Rattle.graph_parts.proofs.LeastNames.{part_count-labels, is_member-unique, AreAmong-unique}
 use Rattle.graph_parts.proofs.LeastLabels.{least_name-Joined, least_name-label, is_least-label}
 use Rattle.graph_parts.proofs.Renaming.{label_count-renamed}
@@ -91,7 +94,7 @@ within_labels l names others h =
     All-map (λ z. is_member ◌==◌ (map l others) z ≡ true) l names
     (All-weaker (λ x. is_member ◌==◌ names x ≡ true) (λ x. is_member ◌==◌ (map l others) (l x) ≡ true) (λ x m. is_member-map l others x (h x m)) names (is_member-itself names))
 
-label_count-same_names : (l : ℕ → ℕ) (names others : List ℕ) → ((x : ℕ) → is_member ◌==◌ names x ≡ is_member ◌==◌ others x) → label_count l names ≡ label_count l others
+pub label_count-same_names : (l : ℕ → ℕ) (names others : List ℕ) → ((x : ℕ) → is_member ◌==◌ names x ≡ is_member ◌==◌ others x) → label_count l names ≡ label_count l others
 label_count-same_names l names others h =
     let a = distinct_count-le_from_within (map l names) (map l others) (within_labels l names others (λ x m. sym (h x) ∙ m)) in
     let b = distinct_count-le_from_within (map l others) (map l names) (within_labels l others names (λ x m. h x ∙ m)) in
@@ -114,7 +117,7 @@ other_names rename names edges p h =
     ∙ sym (part_count-labels names edges p)
 
 -- ---- two graphs
-AreAmong-append : (names others : List ℕ) (es fs : List (ℕ × ℕ)) → AreAmong names es → AreAmong others fs → AreAmong (names ++ others) (es ++ fs)
+pub AreAmong-append : (names others : List ℕ) (es fs : List (ℕ × ℕ)) → AreAmong names es → AreAmong others fs → AreAmong (names ++ others) (es ++ fs)
 AreAmong-append names others es fs p q =
     EndsAre-append (is_member ◌==◌ (names ++ others)) es fs
     (EndsAre-weaker (is_member ◌==◌ names) (is_member ◌==◌ (names ++ others)) (λ x m. is_member-append names others x ∙ or_left (is_member ◌==◌ names x) (is_member ◌==◌ others x) m) es p)
@@ -152,3 +155,39 @@ count_by_least names edges p =
     (λ x m.
     is_least-label unique edges (AreAmong-unique names edges p) x m
     ∙ ap (λ n. n == x) (sym (least_name-label names edges p x (sym (is_member-unique names x) ∙ m))))
+
+-- ---- gluing
+pub AreAmong-glued : (others inner found : List ℕ) (fs : List (ℕ × ℕ)) → AllPass (is_member ◌==◌ inner) found → AreAmong others fs → AreAmong (others ++ inner) (zip inner found ++ fs)
+AreAmong-glued others inner found fs has q =
+    let test = is_member ◌==◌ (others ++ inner) in
+    let in_inner : (x : ℕ) → is_member ◌==◌ inner x ≡ true → is_member ◌==◌ (others ++ inner) x ≡ true =
+    λ x m. is_member-append others inner x ∙ or_right (is_member ◌==◌ others x) (is_member ◌==◌ inner x) m in
+    let in_others : (x : ℕ) → is_member ◌==◌ others x ≡ true → is_member ◌==◌ (others ++ inner) x ≡ true =
+    λ x m. is_member-append others inner x ∙ or_left (is_member ◌==◌ others x) (is_member ◌==◌ inner x) m in
+    EndsAre-append test (zip inner found) fs
+    (EndsAre-weaker (is_member ◌==◌ inner) test in_inner (zip inner found) (EndsAre-zip (is_member ◌==◌ inner) inner found (is_member-itself inner) has))
+    (EndsAre-weaker (is_member ◌==◌ others) test in_others fs q)
+
+outer_both : (names others inner outer : List ℕ) → AllPass (is_member ◌==◌ names) inner → AllPass (is_member ◌==◌ (others ++ inner)) outer → AllPass (is_member ◌==◌ (names ++ others)) outer
+outer_both names others inner outer has left =
+    All-weaker (λ x. is_member ◌==◌ (others ++ inner) x ≡ true) (λ x. is_member ◌==◌ (names ++ others) x ≡ true)
+    (λ x m. is_member-append names others x ∙ (let a = is_member-append others inner x in let i = from_All (is_member ◌==◌ names) inner has x in grind (arith, m, a, i)))
+    outer left
+
+pub pattern_gluing : PatternGluingLaw
+pattern_gluing names others inner outer es fs p q seam left =
+    let found = label_pattern es inner in
+    pattern-labels (names ++ others) (es ++ fs) (AreAmong-append names others es fs p q) outer (outer_both names others inner outer seam.has_open left)
+    ∙ label_pattern-glue names others inner outer es fs p q seam.has_open seam.meets left
+    ∙ sym (pattern-labels (others ++ inner) (zip inner found ++ fs) (AreAmong-glued others inner found fs (label_pattern-among es inner) q) outer left)
+    ∙ ap (λ f. pattern (others ++ inner) (zip inner f ++ fs) outer) (sym (pattern-labels names es p inner seam.has_open))
+
+pub closed_gluing : ClosedGluingLaw
+closed_gluing names others inner outer es fs p q seam left =
+    let found = label_pattern es inner in
+    let whole = closed_parts-labels (names ++ others) (es ++ fs) (AreAmong-append names others es fs p q) outer (outer_both names others inner outer seam.has_open left) in
+    let glued = label_closed-glue names others inner outer es fs p q seam.has_open seam.meets left in
+    let first = closed_parts-labels names es p inner seam.has_open in
+    let then_closed = closed_parts-labels (others ++ inner) (zip inner found ++ fs) (AreAmong-glued others inner found fs (label_pattern-among es inner) q) outer left in
+    let same = ap (λ f. closed_parts (others ++ inner) (zip inner f ++ fs) outer) (pattern-labels names es p inner seam.has_open) in
+    omega (arith, whole, glued, first, then_closed, same)

@@ -3,7 +3,6 @@
 -- does to labels is one equation, so that laws on parts are inductions on the edges. That labels tell exactly what
 -- walks join, and count exactly the parts, is proved in proofs/Walks.antt and proofs/LeastNames.antt.
 --
---     turned a b x                 b in the place of a: b where x is a, else x
 --     relabel label edge           the labels after one more edge
 --     label_after label edges      the labels after these edges
 --     label_of edges               the labels after these edges, where each name began with itself
@@ -12,10 +11,6 @@
 use Rattle.std.specs.Prelude.{◌≡◌, ℕ, Bool, true, ◌==◌, if◌then◌else◌, List, map}
 use Rattle.std.specs.List.{fold}
 use Rattle.std.specs.Set.{distinct_count}
-
--- b in the place of a
-abbrev pub turned : ℕ → ℕ → ℕ → ℕ
-turned a b x = if x == a then b else x
 
 -- After an edge between a and b, what had a's label has b's label.
 abbrev pub relabel : (ℕ → ℕ) → ℕ × ℕ → ℕ → ℕ

@@ -3,13 +3,15 @@
 --     InPart names edges x y             y is in the part of x
 --     IsEquivalence names edges          of the names, being in one part is an equivalence
 --     JoinAlike inside es fs             two lists of edges join the same of the names inside
+--     IsSeam names others inner          two graphs share only the inner names, and the first has each of these
 --     IsAmongEdges es fs                 each edge of the one list stands in the other, this way round or the other
 use Rattle.std.specs.Prelude.{◌≡◌, ◌⊎◌, ℕ, ◌+◌, ◌==◌, ◌↔◌, true, false, List, [], ◌∷◌, ◌++◌, map, length}
-use Rattle.std.specs.List.{Contains, count_by}
+use Rattle.std.specs.List.{AllPass, Contains, count_by, zip}
 use Rattle.std.specs.Set.{is_member, unique_keys}
 use Rattle.graph_parts.specs.Ends.{AreAmong}
 use Rattle.graph_parts.specs.LeastNames.{least_name}
 use Rattle.graph_parts.specs.Parts.{part, part_count}
+use Rattle.graph_parts.specs.Patterns.{pattern, closed_parts}
 use Rattle.graph_parts.specs.Renaming.{renamed, IsOneToOne}
 use Rattle.graph_parts.specs.Representatives.{AreRepresentatives}
 use Rattle.graph_parts.specs.Walks.{Joined}
@@ -106,3 +108,24 @@ abbrev pub CountByLeastLaw : Type 0
 CountByLeastLaw =
     (names : List ℕ) (edges : List (ℕ × ℕ)) → AreAmong names edges →
     part_count names edges ≡ count_by (λ x. least_name names edges x == x) (unique_keys ◌==◌ names)
+
+-- Two graphs share only inner open names: the second graph's names meet the first's in inner ones alone.
+pub record IsSeam (names others inner : List ℕ) : Type 0 where
+  pub has_open : AllPass (is_member ◌==◌ names) inner
+  pub meets : (x : ℕ) → is_member ◌==◌ others x ≡ true → is_member ◌==◌ names x ≡ true → is_member ◌==◌ inner x ≡ true
+
+-- Gluing: of two graphs that share only inner open names, the pattern of both together follows from the first's pattern
+-- and the second's edges: the edge from each inner name to its fellow stands in for the first graph.
+abbrev pub PatternGluingLaw : Type 0
+PatternGluingLaw =
+    (names others inner outer : List ℕ) (es fs : List (ℕ × ℕ)) → AreAmong names es → AreAmong others fs → IsSeam names others inner →
+    AllPass (is_member ◌==◌ (others ++ inner)) outer →
+    pattern (names ++ others) (es ++ fs) outer ≡ pattern (others ++ inner) (zip inner (pattern names es inner) ++ fs) outer
+
+-- And the closed parts of both are those of the first and those that then close.
+abbrev pub ClosedGluingLaw : Type 0
+ClosedGluingLaw =
+    (names others inner outer : List ℕ) (es fs : List (ℕ × ℕ)) → AreAmong names es → AreAmong others fs → IsSeam names others inner →
+    AllPass (is_member ◌==◌ (others ++ inner)) outer →
+    closed_parts (names ++ others) (es ++ fs) outer
+    ≡ closed_parts names es inner + closed_parts (others ++ inner) (zip inner (pattern names es inner) ++ fs) outer

@@ -1,6 +1,6 @@
 //! The laws of parts: each function has an empty body, and its contract is the law. They are stated in `specs/Laws.antt`.
 
-ghost use Rattle.graph_parts.specs.Laws.{RoundsLaw, EquivalenceLaw, NoNamesLaw, JoinedEdgeLaw, ApartEdgeLaw, ContractionLaw, SameEdgesLaw, SameNamesLaw, RenamingLaw, DisjointUnionLaw, RepresentativesLaw, LeastNamesLaw, CountByLeastLaw};
+ghost use Rattle.graph_parts.specs.Laws.{RoundsLaw, EquivalenceLaw, NoNamesLaw, JoinedEdgeLaw, ApartEdgeLaw, ContractionLaw, SameEdgesLaw, SameNamesLaw, RenamingLaw, DisjointUnionLaw, RepresentativesLaw, LeastNamesLaw, CountByLeastLaw, PatternGluingLaw, ClosedGluingLaw};
 
 /// The part of a name is what walks along the edges join with it.
 pub fn parts_by_walks()
@@ -65,4 +65,14 @@ pub fn least_names_tell()
 /// There are as many parts as names that are the least of their part.
 pub fn count_by_least()
     ensures { CountByLeastLaw }
+{}
+
+/// The pattern of two graphs together follows from the first one's pattern and the second one's edges.
+pub fn pattern_gluing()
+    ensures { PatternGluingLaw }
+{}
+
+/// The closed parts of two graphs together are those of the first and those that then close.
+pub fn closed_gluing()
+    ensures { ClosedGluingLaw }
 {}

@@ -7,6 +7,7 @@
 mod laws;
 
 pub use laws::{
-    apart_edge, as_many_representatives, contraction, count_by_least, disjoint_union, equivalence,
-    joined_edge, least_names_tell, no_names, other_names, parts_by_walks, same_edges, same_names,
+    apart_edge, as_many_representatives, closed_gluing, contraction, count_by_least,
+    disjoint_union, equivalence, joined_edge, least_names_tell, no_names, other_names,
+    parts_by_walks, pattern_gluing, same_edges, same_names,
 };

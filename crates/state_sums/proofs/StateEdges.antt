@@ -3,13 +3,14 @@
 --     HasPlaces node          each partner of each term is a place of the node
 --     HavePlaces nodes        each node has its partners' places
 --
--- Others cite: HavePlaces-from_nodes, EndsAre-term, sum_by_all, total_same.
-use Rattle.std.proofs.Common.{◌≡◌, ℕ, ◌*◌, ◌<◌, true, ◌==◌, List, [], ◌∷◌, ◌++◌, map, length, get_or, slice_index, sum_by, refl, sym, ap, ◌∙◌, arith, All}
+-- Others cite: HavePlaces-from_nodes, HavePlaces-from_test (for nodes that are written out), EndsAre-term, sum_by_all, total_same.
+use Rattle.std.proofs.Common.{ltb, Bool, ◌≡◌, ℕ, ◌*◌, ◌<◌, true, ◌==◌, List, [], ◌∷◌, ◌++◌, map, length, get_or, slice_index, sum_by, refl, sym, ap, ◌∙◌, arith, All}
+use Rattle.std.specs.List.{list_all}
 use Rattle.std.specs.Set.{is_member}
-use Rattle.std.proofs.lemmas.Bool.{or_left, or_right}
+use Rattle.std.proofs.lemmas.Bool.{or_left, or_right, ltb-true}
 use Rattle.std.proofs.lemmas.Grind.{get_or_default_zero}
 use Rattle.std.proofs.lemmas.List.Elements.{All-head, All-tail, All-map, All-weaker}
-use Rattle.std.proofs.lemmas.List.Sums.{sum_by-cons}
+use Rattle.std.proofs.lemmas.List.Sums.{sum_by-cons, AllPass-from_list_all}
 use Rattle.graph_parts.specs.Ends.{AreAmong}
 use Rattle.graph_parts.proofs.Distinct.{is_member-append}
 use Rattle.graph_parts.proofs.Ends.{EndsAre-append, EndsAre-weaker, EndsAre-zip, is_member-itself, is_member-get_or}
@@ -22,6 +23,19 @@ HasPlaces node = All (λ term. All (λ place. place < length node.ends) term.par
 
 abbrev pub HavePlaces : List Node → Type 0
 HavePlaces nodes = All (λ node. All (λ term. All (λ place. place < length node.ends) term.partner) node.terms) nodes
+
+abbrev pub has_places : Node → Bool
+has_places node = list_all (λ term. list_all (λ place. ltb place (length node.ends)) term.partner) node.terms
+
+-- nodes written out pass the test by computing
+pub HavePlaces-from_test : (nodes : List Node) → list_all has_places nodes ≡ true → HavePlaces nodes
+HavePlaces-from_test nodes h =
+    All-weaker (λ node. has_places node ≡ true) HasPlaces
+    (λ node t. All-weaker (λ term. list_all (λ place. ltb place (length node.ends)) term.partner ≡ true) (λ term. All (λ place. place < length node.ends) term.partner)
+    (λ term u. All-weaker (λ place. ltb place (length node.ends) ≡ true) (λ place. place < length node.ends) (λ place v. ltb-true place (length node.ends) v) term.partner
+    (AllPass-from_list_all (λ place. ltb place (length node.ends)) term.partner u)) node.terms
+    (AllPass-from_list_all (λ term. list_all (λ place. ltb place (length node.ends)) term.partner) node.terms t)) nodes
+    (AllPass-from_list_all has_places nodes h)
 
 pub HavePlaces-from_nodes : (nodes : List Node) → All IsNode nodes → HavePlaces nodes
 HavePlaces-from_nodes nodes h i d l j e k p f q =

@@ -1,7 +1,122 @@
--- The laws of state sums.
-use Rattle.std.specs.Prelude.{◌≡◌, ℕ, ◌%◌, ◌^◌, []}
+-- The laws of state sums. They carry everything above that cuts, glues, renames or rewrites networks.
+use Rattle.std.specs.Prelude.{◌≡◌, ℕ, ◌+◌, ◌*◌, ◌%◌, ◌^◌, ◌≤◌, ◌==◌, true, false, List, [], ◌∷◌, ◌++◌, map, IsPermutation}
+use Rattle.std.specs.List.{All, AllPass}
+use Rattle.std.specs.Set.{is_member}
+use Rattle.graph_parts.specs.Renaming.{IsOneToOne, turned}
+use Rattle.state_sums.specs.LocalSums.{pattern_sum, rest_sum, SameEverywhere, IsCut, open_of, rename, arc, weighted_arc, crossing, AreSkeinNumbers}
+use Rattle.state_sums.specs.Networks.{Node, Network, IsNode, names_of, times_in}
 use Rattle.state_sums.specs.StateSums.{value}
 
 -- A network with no node has one state, the empty one.
 abbrev pub NoNodesLaw : Type 0
 NoNodesLaw = (m delta free : ℕ) → value m delta record { nodes = []; free_loops = free } ≡ delta ^ free % m
+
+-- The order of the nodes does not matter.
+abbrev pub OrderLaw : Type 0
+OrderLaw =
+    (m delta free : ℕ) (nodes permuted : List Node) → All IsNode nodes → IsPermutation nodes permuted →
+    value m delta record { nodes = permuted; free_loops = free } ≡ value m delta record { nodes = nodes; free_loops = free }
+
+-- Names do not matter: other names, one to one, keep the value.
+abbrev pub RenamingLaw : Type 0
+RenamingLaw =
+    (m delta free : ℕ) (new_name : ℕ → ℕ) (nodes : List Node) → All IsNode nodes → IsOneToOne new_name (names_of nodes) →
+    value m delta record { nodes = rename new_name nodes; free_loops = free } ≡ value m delta record { nodes = nodes; free_loops = free }
+
+-- Two networks with no name in common have together the product of their values.
+abbrev pub DisjointUnionLaw : Type 0
+DisjointUnionLaw =
+    (m delta free more : ℕ) (nodes others : List Node) → All IsNode nodes → All IsNode others →
+    ((x : ℕ) → is_member ◌==◌ (names_of nodes) x ≡ true → is_member ◌==◌ (names_of others) x ≡ false) →
+    value m delta record { nodes = nodes ++ others; free_loops = free + more }
+    ≡ value m delta record { nodes = nodes; free_loops = free } * value m delta record { nodes = others; free_loops = more } % m
+
+-- An arc between two names makes them one: y in the place of x. Read backwards, it cuts a name in two.
+abbrev pub ArcLaw : Type 0
+ArcLaw =
+    (m delta free x y : ℕ) (rest : List Node) → All IsNode rest → is_member ◌==◌ (names_of rest) x ≡ true → is_member ◌==◌ (names_of rest) y ≡ true →
+    value m delta record { nodes = arc x y ∷ rest; free_loops = free } ≡ value m delta record { nodes = rename (turned x y) rest; free_loops = free }
+
+-- Where no name stands three times, the names that stand once in the nodes cut them off from the rest.
+abbrev pub CutLaw : Type 0
+CutLaw = (nodes rest : List Node) → ((x : ℕ) → times_in (names_of nodes ++ names_of rest) x ≤ 2) → IsCut nodes rest (open_of nodes)
+
+-- Gluing: a piece and the rest together count as the piece alone, where each pattern of its open names is worth what the
+-- rest then comes to. With no outer open name it is the value of a closed network.
+abbrev pub GluingLaw : Type 0
+GluingLaw =
+    (delta free more : ℕ) (nodes rest : List Node) (inner outer : List ℕ) (worth : List ℕ → ℕ) → All IsNode nodes → All IsNode rest →
+    IsCut nodes rest inner → AllPass (is_member ◌==◌ (names_of rest ++ inner)) outer →
+    pattern_sum delta record { nodes = nodes ++ rest; free_loops = free + more } outer worth
+    ≡ pattern_sum delta record { nodes = nodes; free_loops = free } inner (rest_sum delta rest more inner outer worth)
+
+-- Replacement: pieces with one coefficient at each pattern of their open names are interchangeable in every network.
+abbrev pub ReplacementLaw : Type 0
+ReplacementLaw =
+    (m delta more : ℕ) (open_names : List ℕ) (old new : Network) (rest : List Node) → All IsNode old.nodes → All IsNode new.nodes → All IsNode rest →
+    IsCut old.nodes rest open_names → IsCut new.nodes rest open_names → SameEverywhere m delta open_names old new →
+    value m delta record { nodes = old.nodes ++ rest; free_loops = old.free_loops + more }
+    ≡ value m delta record { nodes = new.nodes ++ rest; free_loops = new.free_loops + more }
+
+-- To be the same everywhere is an equivalence of pieces.
+pub record IsEquivalence (m delta : ℕ) (open_names : List ℕ) : Type 0 where
+  pub itself : (piece : Network) → SameEverywhere m delta open_names piece piece
+  pub back : (old new : Network) → SameEverywhere m delta open_names old new → SameEverywhere m delta open_names new old
+  pub on : (old between new : Network) → SameEverywhere m delta open_names old between → SameEverywhere m delta open_names between new → SameEverywhere m delta open_names old new
+
+abbrev pub SameEverywhereLaw : Type 0
+SameEverywhereLaw = (m delta : ℕ) (open_names : List ℕ) → IsEquivalence m delta open_names
+
+-- And it is kept under adding nodes, which may leave other names open.
+abbrev pub AddedNodesLaw : Type 0
+AddedNodesLaw =
+    (m delta more : ℕ) (inner outer : List ℕ) (old new : Network) (rest : List Node) → All IsNode old.nodes → All IsNode new.nodes → All IsNode rest →
+    IsCut old.nodes rest inner → IsCut new.nodes rest inner → AllPass (is_member ◌==◌ (names_of rest ++ inner)) outer → SameEverywhere m delta inner old new →
+    SameEverywhere m delta outer record { nodes = old.nodes ++ rest; free_loops = old.free_loops + more }
+    record { nodes = new.nodes ++ rest; free_loops = new.free_loops + more }
+
+-- And under other names, one to one.
+abbrev pub LocalRenamingLaw : Type 0
+LocalRenamingLaw =
+    (m delta : ℕ) (new_name : ℕ → ℕ) (open_names : List ℕ) (old new : Network) → All IsNode old.nodes → All IsNode new.nodes →
+    IsOneToOne new_name (names_of old.nodes) → IsOneToOne new_name (names_of new.nodes) →
+    AllPass (is_member ◌==◌ (names_of old.nodes)) open_names → AllPass (is_member ◌==◌ (names_of new.nodes)) open_names →
+    SameEverywhere m delta open_names old new →
+    SameEverywhere m delta (map new_name open_names) record { nodes = rename new_name old.nodes; free_loops = old.free_loops }
+    record { nodes = rename new_name new.nodes; free_loops = new.free_loops }
+
+-- The curl multiplies by -a^3: w is any number with w + a^3 = 0 modulo m. With a and b exchanged it is the other curl, with
+-- the factor -b^3.
+--
+--     0     1            0   1
+--       \ /              |   |
+--        \         =     '---'  times w
+--       / \
+--      '-2-'
+abbrev pub CurlLaw : Type 0
+CurlLaw =
+    (m a b delta w : ℕ) → AreSkeinNumbers m a b delta → (w + a * a * a) % m ≡ 0 % m →
+    SameEverywhere m delta (0 ∷ 1 ∷ []) record { nodes = crossing a b 1 0 2 2 ∷ []; free_loops = 0 } record { nodes = weighted_arc w 0 1 ∷ []; free_loops = 0 }
+
+-- The second move: the strand from 0 by 4 to 1 is pulled off the strand from 3 by 5 to 2, over which it lies. With a and b
+-- exchanged it is the mirror image, where it lies below.
+--
+--          0       1                0       1
+--          |       |                '-------'
+--     3 -- | --5-- | -- 2      =
+--          |       |                3 ----- 2
+--          '---4---'
+abbrev pub SecondMoveLaw : Type 0
+SecondMoveLaw =
+    (m a b delta : ℕ) → AreSkeinNumbers m a b delta →
+    SameEverywhere m delta (0 ∷ 1 ∷ 2 ∷ 3 ∷ []) record { nodes = crossing a b 5 0 3 4 ∷ crossing a b 2 1 5 4 ∷ []; free_loops = 0 }
+    record { nodes = arc 0 1 ∷ arc 2 3 ∷ []; free_loops = 0 }
+
+-- The third move: of three strands, 0 to 3 lies above, 1 to 4 between and 2 to 5 below; the uppermost is moved over the
+-- crossing of the other two. The bottom is 0 1 2, the top 5 4 3, from left to right.
+abbrev pub ThirdMoveLaw : Type 0
+ThirdMoveLaw =
+    (m a b delta : ℕ) → AreSkeinNumbers m a b delta →
+    SameEverywhere m delta (0 ∷ 1 ∷ 2 ∷ 3 ∷ 4 ∷ 5 ∷ [])
+    record { nodes = crossing a b 6 0 1 7 ∷ crossing a b 8 7 2 3 ∷ crossing a b 5 6 8 4 ∷ []; free_loops = 0 }
+    record { nodes = crossing a b 6 1 2 7 ∷ crossing a b 5 0 6 8 ∷ crossing a b 4 8 7 3 ∷ []; free_loops = 0 }

@@ -1,3 +1,4 @@
 pub mod Networks
 pub mod StateSums
+pub mod LocalSums
 pub mod Laws

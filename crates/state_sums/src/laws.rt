@@ -1,8 +1,73 @@
-//! The laws of state sums: each function has an empty body, and its contract is the law.
+//! The laws of state sums: each function has an empty body, and its contract is the law. They are stated in `specs/Laws.antt`.
 
-ghost use Rattle.state_sums.specs.Laws.{NoNodesLaw};
+ghost use Rattle.state_sums.specs.Laws.{NoNodesLaw, OrderLaw, RenamingLaw, DisjointUnionLaw, ArcLaw, CutLaw, GluingLaw, ReplacementLaw, SameEverywhereLaw, AddedNodesLaw, LocalRenamingLaw, CurlLaw, SecondMoveLaw, ThirdMoveLaw};
 
 /// A network with no node has one state, the empty one: its value is delta to the power of its free loops.
 pub fn no_nodes()
     ensures { NoNodesLaw }
+{}
+
+/// The order of the nodes does not matter.
+pub fn any_order()
+    ensures { OrderLaw }
+{}
+
+/// Other names, one to one, keep the value.
+pub fn any_names()
+    ensures { RenamingLaw }
+{}
+
+/// Two networks with no name in common have together the product of their values.
+pub fn disjoint_union()
+    ensures { DisjointUnionLaw }
+{}
+
+/// An arc between two names makes them one; read backwards, it cuts a name in two.
+pub fn arc_joins()
+    ensures { ArcLaw }
+{}
+
+/// Where no name stands three times, the names that stand once in some nodes cut them off from the rest.
+pub fn cut_at_single_names()
+    ensures { CutLaw }
+{}
+
+/// A piece and the rest together count as the piece alone, where each pattern of its open names is worth what the rest then comes to.
+pub fn gluing()
+    ensures { GluingLaw }
+{}
+
+/// Pieces with one coefficient at each pattern of their open names are interchangeable in every network.
+pub fn replacement()
+    ensures { ReplacementLaw }
+{}
+
+/// To be the same everywhere is an equivalence of pieces.
+pub fn same_everywhere()
+    ensures { SameEverywhereLaw }
+{}
+
+/// To be the same everywhere is kept under adding nodes.
+pub fn added_nodes()
+    ensures { AddedNodesLaw }
+{}
+
+/// To be the same everywhere is kept under other names, one to one.
+pub fn local_renaming()
+    ensures { LocalRenamingLaw }
+{}
+
+/// The first Reidemeister move: a curl multiplies by -a^3 (Lickorish, ch. 3).
+pub fn curl()
+    ensures { CurlLaw }
+{}
+
+/// The second Reidemeister move (Lickorish, ch. 3).
+pub fn second_move()
+    ensures { SecondMoveLaw }
+{}
+
+/// The third Reidemeister move (Lickorish, ch. 3).
+pub fn third_move()
+    ensures { ThirdMoveLaw }
 {}

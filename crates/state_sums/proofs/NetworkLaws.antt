@@ -1,0 +1,74 @@
+-- The laws of state sums, of nodes that are such.
+--
+-- Others cite: each by the name of its function in src/laws.rt; those on sums before they are reduced stand in the files below.
+use Rattle.std.proofs.Common.{◌%◌, refl, sym, ap, ◌∙◌, zero-add, arith}
+use Rattle.std.proofs.lemmas.Nat.{mul-mod}
+use Rattle.graph_parts.specs.Parts.{part_count}
+use Rattle.state_sums.specs.Laws.{NoNodesLaw, OrderLaw, RenamingLaw, DisjointUnionLaw, ArcLaw, CutLaw, GluingLaw, ReplacementLaw, SameEverywhereLaw, AddedNodesLaw, LocalRenamingLaw, CurlLaw, SecondMoveLaw, ThirdMoveLaw}
+use Rattle.state_sums.specs.StateSums.{state_sum, value}
+use Rattle.state_sums.proofs.Arcs.{state_sum-arc}
+use Rattle.state_sums.proofs.Cuts.{IsCut-from_times}
+use Rattle.state_sums.proofs.DisjointSums.{state_sum-disjoint}
+use Rattle.state_sums.proofs.GluedSums.{pattern_sum-rest, kept_under_nodes}
+use Rattle.state_sums.proofs.Moves.{curl_move, bigon_move, triangle_move}
+use Rattle.state_sums.proofs.NodeNames.{state_sum-rename, SameEverywhere-rename}
+use Rattle.state_sums.proofs.NodeOrder.{state_sum-permuted}
+use Rattle.state_sums.proofs.Replacing.{replaced}
+use Rattle.state_sums.proofs.StateEdges.{HavePlaces-from_nodes}
+
+pub no_nodes : NoNodesLaw
+unfolding value part_count
+no_nodes m delta free = ap (λ n. n % m) (simp zero-add (omega arith))
+
+pub any_order : OrderLaw
+unfolding value
+any_order m delta free nodes permuted p h = ap (λ n. n % m) (state_sum-permuted delta free nodes permuted (HavePlaces-from_nodes nodes p) h)
+
+pub any_names : RenamingLaw
+unfolding value
+any_names m delta free new_name nodes p h = ap (λ n. n % m) (state_sum-rename delta new_name nodes free (HavePlaces-from_nodes nodes p) h)
+
+pub disjoint_union : DisjointUnionLaw
+unfolding value
+disjoint_union m delta free more nodes others p q apart =
+    ap (λ n. n % m) (state_sum-disjoint delta nodes others free more (HavePlaces-from_nodes nodes p) (HavePlaces-from_nodes others q) apart)
+    ∙ mul-mod (state_sum delta record { nodes = nodes; free_loops = free }) (state_sum delta record { nodes = others; free_loops = more }) m
+
+pub arc_joins : ArcLaw
+unfolding value
+arc_joins m delta free x y rest p a b = ap (λ n. n % m) (state_sum-arc delta x y rest free (HavePlaces-from_nodes rest p) a b)
+
+pub cut_at_single_names : CutLaw
+cut_at_single_names nodes rest h = IsCut-from_times nodes rest h
+
+pub gluing : GluingLaw
+gluing delta free more nodes rest inner outer worth p q cut left =
+    pattern_sum-rest delta nodes rest inner outer free more worth (HavePlaces-from_nodes nodes p) (HavePlaces-from_nodes rest q) cut left
+
+pub replacement : ReplacementLaw
+replacement m delta more open_names old new rest p q r old_cut new_cut same =
+    replaced m delta open_names old new rest more (HavePlaces-from_nodes old.nodes p) (HavePlaces-from_nodes new.nodes q) (HavePlaces-from_nodes rest r) old_cut new_cut same
+
+pub same_everywhere : SameEverywhereLaw
+same_everywhere m delta open_names = record {
+  itself = λ piece. record { at = λ wanted. refl };
+  back = λ old new h. record { at = λ wanted. sym (h.at wanted) };
+  on = λ old between new h k. record { at = λ wanted. h.at wanted ∙ k.at wanted };
+}
+
+pub added_nodes : AddedNodesLaw
+added_nodes m delta more inner outer old new rest p q r old_cut new_cut left same =
+    kept_under_nodes m delta inner outer old new rest more (HavePlaces-from_nodes old.nodes p) (HavePlaces-from_nodes new.nodes q) (HavePlaces-from_nodes rest r) old_cut new_cut left same
+
+pub local_renaming : LocalRenamingLaw
+local_renaming m delta new_name open_names old new p q h k a b same =
+    SameEverywhere-rename m delta new_name open_names old new (HavePlaces-from_nodes old.nodes p) (HavePlaces-from_nodes new.nodes q) h k a b same
+
+pub curl : CurlLaw
+curl m a b delta w numbers factor = curl_move m a b delta w numbers factor
+
+pub second_move : SecondMoveLaw
+second_move m a b delta numbers = bigon_move m a b delta numbers
+
+pub third_move : ThirdMoveLaw
+third_move m a b delta numbers = triangle_move m a b delta numbers
