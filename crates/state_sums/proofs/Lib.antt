@@ -11,6 +11,7 @@ pub mod NodeNames
 pub mod NodeOrder
 pub mod Arcs
 pub mod Moves
+pub mod WrittenNodes
 pub mod Cuts
 pub mod NetworkLaws
 mod Examples

@@ -1,10 +1,10 @@
 -- The laws of state sums, of nodes that are such.
 --
 -- Others cite: each by the name of its function in src/laws.rt; those on sums before they are reduced stand in the files below.
-use Rattle.std.proofs.Common.{◌%◌, refl, sym, ap, ◌∙◌, zero-add, arith}
+use Rattle.std.proofs.Common.{map, ◌%◌, refl, sym, ap, ◌∙◌, zero-add, arith}
 use Rattle.std.proofs.lemmas.Nat.{mul-mod}
 use Rattle.graph_parts.specs.Parts.{part_count}
-use Rattle.state_sums.specs.Laws.{NoNodesLaw, OrderLaw, RenamingLaw, DisjointUnionLaw, ArcLaw, CutLaw, GluingLaw, ReplacementLaw, SameEverywhereLaw, AddedNodesLaw, LocalRenamingLaw, CurlLaw, SecondMoveLaw, ThirdMoveLaw}
+use Rattle.state_sums.specs.Laws.{NoNodesLaw, OrderLaw, RenamingLaw, DisjointUnionLaw, ArcLaw, CutLaw, GluingLaw, ReplacementLaw, SameEverywhereLaw, AddedNodesLaw, LocalRenamingLaw, AnywhereLaw, CurlLaw, SecondMoveLaw, ThirdMoveLaw}
 use Rattle.state_sums.specs.StateSums.{state_sum, value}
 use Rattle.state_sums.proofs.Arcs.{state_sum-arc}
 use Rattle.state_sums.proofs.Cuts.{IsCut-from_times}
@@ -15,6 +15,8 @@ use Rattle.state_sums.proofs.NodeNames.{state_sum-rename, SameEverywhere-rename}
 use Rattle.state_sums.proofs.NodeOrder.{state_sum-permuted}
 use Rattle.state_sums.proofs.Replacing.{replaced}
 use Rattle.state_sums.proofs.StateEdges.{HavePlaces-from_nodes}
+use Rattle.state_sums.proofs.WrittenNodes.{IsNode-rename}
+use Rattle.state_sums.specs.LocalSums.{rename}
 
 pub no_nodes : NoNodesLaw
 unfolding value part_count
@@ -63,6 +65,13 @@ added_nodes m delta more inner outer old new rest p q r old_cut new_cut left sam
 pub local_renaming : LocalRenamingLaw
 local_renaming m delta new_name open_names old new p q h k a b same =
     SameEverywhere-rename m delta new_name open_names old new (HavePlaces-from_nodes old.nodes p) (HavePlaces-from_nodes new.nodes q) h k a b same
+
+pub anywhere : AnywhereLaw
+anywhere m delta more new_name open_names old new rest p q r h k a b old_cut new_cut same =
+    replacement m delta more (map new_name open_names)
+    record { nodes = rename new_name old.nodes; free_loops = old.free_loops } record { nodes = rename new_name new.nodes; free_loops = new.free_loops } rest
+    (IsNode-rename new_name old.nodes p) (IsNode-rename new_name new.nodes q) r old_cut new_cut
+    (local_renaming m delta new_name open_names old new p q h k a b same)
 
 pub curl : CurlLaw
 curl m a b delta w numbers factor = curl_move m a b delta w numbers factor

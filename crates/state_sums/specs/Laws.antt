@@ -85,6 +85,17 @@ LocalRenamingLaw =
     SameEverywhere m delta (map new_name open_names) record { nodes = rename new_name old.nodes; free_loops = old.free_loops }
     record { nodes = rename new_name new.nodes; free_loops = new.free_loops }
 
+-- So a local equality, proved at names that are written out, holds in every network at any names, one to one.
+abbrev pub AnywhereLaw : Type 0
+AnywhereLaw =
+    (m delta more : ℕ) (new_name : ℕ → ℕ) (open_names : List ℕ) (old new : Network) (rest : List Node) →
+    All IsNode old.nodes → All IsNode new.nodes → All IsNode rest → IsOneToOne new_name (names_of old.nodes) → IsOneToOne new_name (names_of new.nodes) →
+    AllPass (is_member ◌==◌ (names_of old.nodes)) open_names → AllPass (is_member ◌==◌ (names_of new.nodes)) open_names →
+    IsCut (rename new_name old.nodes) rest (map new_name open_names) → IsCut (rename new_name new.nodes) rest (map new_name open_names) →
+    SameEverywhere m delta open_names old new →
+    value m delta record { nodes = rename new_name old.nodes ++ rest; free_loops = old.free_loops + more }
+    ≡ value m delta record { nodes = rename new_name new.nodes ++ rest; free_loops = new.free_loops + more }
+
 -- The curl multiplies by -a^3: w is any number with w + a^3 = 0 modulo m. With a and b exchanged it is the other curl, with
 -- the factor -b^3.
 --

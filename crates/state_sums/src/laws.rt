@@ -1,6 +1,6 @@
 //! The laws of state sums: each function has an empty body, and its contract is the law. They are stated in `specs/Laws.antt`.
 
-ghost use Rattle.state_sums.specs.Laws.{NoNodesLaw, OrderLaw, RenamingLaw, DisjointUnionLaw, ArcLaw, CutLaw, GluingLaw, ReplacementLaw, SameEverywhereLaw, AddedNodesLaw, LocalRenamingLaw, CurlLaw, SecondMoveLaw, ThirdMoveLaw};
+ghost use Rattle.state_sums.specs.Laws.{NoNodesLaw, OrderLaw, RenamingLaw, DisjointUnionLaw, ArcLaw, CutLaw, GluingLaw, ReplacementLaw, SameEverywhereLaw, AddedNodesLaw, LocalRenamingLaw, AnywhereLaw, CurlLaw, SecondMoveLaw, ThirdMoveLaw};
 
 /// A network with no node has one state, the empty one: its value is delta to the power of its free loops.
 pub fn no_nodes()
@@ -55,6 +55,11 @@ pub fn added_nodes()
 /// To be the same everywhere is kept under other names, one to one.
 pub fn local_renaming()
     ensures { LocalRenamingLaw }
+{}
+
+/// A local equality holds in every network at any names, one to one.
+pub fn anywhere()
+    ensures { AnywhereLaw }
 {}
 
 /// The first Reidemeister move: a curl multiplies by -a^3 (Lickorish, ch. 3).
