@@ -12,6 +12,7 @@ pub mod NodeOrder
 pub mod Arcs
 pub mod Moves
 pub mod WrittenNodes
+pub mod Turned
 pub mod Cuts
 pub mod NetworkLaws
 mod Examples
