@@ -139,7 +139,7 @@ as_many_representatives names chosen edges p r = length-AreRepresentatives edges
 pub least_names_tell : LeastNamesLaw
 least_names_tell names edges x y p m n = least_name-Joined names edges p x y m n
 
-count_by_all : (f g : ℕ → Bool) (xs : List ℕ) → ((x : ℕ) → is_member ◌==◌ xs x ≡ true → f x ≡ g x) → count_by f xs ≡ count_by g xs
+pub count_by_all : (f g : ℕ → Bool) (xs : List ℕ) → ((x : ℕ) → is_member ◌==◌ xs x ≡ true → f x ≡ g x) → count_by f xs ≡ count_by g xs
 count_by_all f g [] h = refl
 count_by_all f g (x ∷ xs) h =
     let here = h x (or_left (x == x) (is_member ◌==◌ xs x) (eq-eqb x x refl)) in

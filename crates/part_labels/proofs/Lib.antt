@@ -1,2 +1,3 @@
 pub mod Forests
 pub mod Labelled
+pub mod Entries

@@ -12,12 +12,6 @@ pow_0 d = pow-zero d
 pub pow_1 : (d : ℕ) → d ^ 1 ≡ d
 pow_1 d = pow-suc d 0 ∙ (let e = pow_0 d in rw e (omega arith))
 
-pub pow_2 : (d : ℕ) → d ^ 2 ≡ d * d
-pow_2 d = pow-suc d 1 ∙ (let e = pow_1 d in rw e)
-
-pub pow_3 : (d : ℕ) → d ^ 3 ≡ d * d * d
-pow_3 d = pow-suc d 2 ∙ (let e = pow_2 d in rw e)
-
 pub add_same_mod : (m a b c d : ℕ) → a % m ≡ b % m → c % m ≡ d % m → (a + c) % m ≡ (b + d) % m
 add_same_mod m a b c d h k = add-mod a c m ∙ (rw (h, k)) ∙ sym (add-mod b d m)
 

@@ -11,6 +11,8 @@ pub mod NodeNames
 pub mod NodeOrder
 pub mod Arcs
 pub mod Moves
+pub mod WrittenNodes
+pub mod Turned
 pub mod Cuts
 pub mod NetworkLaws
 mod Examples

@@ -85,8 +85,26 @@ LocalRenamingLaw =
     SameEverywhere m delta (map new_name open_names) record { nodes = rename new_name old.nodes; free_loops = old.free_loops }
     record { nodes = rename new_name new.nodes; free_loops = new.free_loops }
 
--- The curl multiplies by -a^3: w is any number with w + a^3 = 0 modulo m. With a and b exchanged it is the other curl, with
--- the factor -b^3.
+-- So a local equality, proved at names that are written out, holds in every network at any names, one to one.
+abbrev pub AnywhereLaw : Type 0
+AnywhereLaw =
+    (m delta more : ℕ) (new_name : ℕ → ℕ) (open_names : List ℕ) (old new : Network) (rest : List Node) →
+    All IsNode old.nodes → All IsNode new.nodes → All IsNode rest → IsOneToOne new_name (names_of old.nodes) → IsOneToOne new_name (names_of new.nodes) →
+    AllPass (is_member ◌==◌ (names_of old.nodes)) open_names → AllPass (is_member ◌==◌ (names_of new.nodes)) open_names →
+    IsCut (rename new_name old.nodes) rest (map new_name open_names) → IsCut (rename new_name new.nodes) rest (map new_name open_names) →
+    SameEverywhere m delta open_names old new →
+    value m delta record { nodes = rename new_name old.nodes ++ rest; free_loops = old.free_loops + more }
+    ≡ value m delta record { nodes = rename new_name new.nodes ++ rest; free_loops = new.free_loops + more }
+
+-- A crossing turned by a quarter, with its weights exchanged, is the same crossing, wherever it stands and whatever its names.
+abbrev pub QuarterTurnLaw : Type 0
+QuarterTurnLaw =
+    (m delta a b w x y z free : ℕ) (front back : List Node) (open_names : List ℕ) → All IsNode front → All IsNode back →
+    AllPass (is_member ◌==◌ (names_of (front ++ crossing a b w x y z ∷ back))) open_names →
+    SameEverywhere m delta open_names record { nodes = front ++ crossing a b w x y z ∷ back; free_loops = free }
+    record { nodes = front ++ crossing b a x y z w ∷ back; free_loops = free }
+
+-- The curl multiplies by -a^3: w is any number with w + a^3 = 0 modulo m.
 --
 --     0     1            0   1
 --       \ /              |   |
@@ -98,8 +116,14 @@ CurlLaw =
     (m a b delta w : ℕ) → AreSkeinNumbers m a b delta → (w + a * a * a) % m ≡ 0 % m →
     SameEverywhere m delta (0 ∷ 1 ∷ []) record { nodes = crossing a b 1 0 2 2 ∷ []; free_loops = 0 } record { nodes = weighted_arc w 0 1 ∷ []; free_loops = 0 }
 
+-- The other curl, where 1 passes over, multiplies by -b^3.
+abbrev pub OtherCurlLaw : Type 0
+OtherCurlLaw =
+    (m a b delta w : ℕ) → AreSkeinNumbers m a b delta → (w + b * b * b) % m ≡ 0 % m →
+    SameEverywhere m delta (0 ∷ 1 ∷ []) record { nodes = crossing a b 2 1 0 2 ∷ []; free_loops = 0 } record { nodes = weighted_arc w 0 1 ∷ []; free_loops = 0 }
+
 -- The second move: the strand from 0 by 4 to 1 is pulled off the strand from 3 by 5 to 2, over which it lies. With a and b
--- exchanged it is the mirror image, where it lies below.
+-- exchanged, and so by a quarter turn of both crossings, it is the mirror image, where it lies below.
 --
 --          0       1                0       1
 --          |       |                '-------'
@@ -113,7 +137,8 @@ SecondMoveLaw =
     record { nodes = arc 0 1 ∷ arc 2 3 ∷ []; free_loops = 0 }
 
 -- The third move: of three strands, 0 to 3 lies above, 1 to 4 between and 2 to 5 below; the uppermost is moved over the
--- crossing of the other two. The bottom is 0 1 2, the top 5 4 3, from left to right.
+-- crossing of the other two. The bottom is 0 1 2, the top 5 4 3, from left to right. With a and b exchanged it is the mirror
+-- image.
 abbrev pub ThirdMoveLaw : Type 0
 ThirdMoveLaw =
     (m a b delta : ℕ) → AreSkeinNumbers m a b delta →

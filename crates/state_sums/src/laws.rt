@@ -1,6 +1,6 @@
 //! The laws of state sums: each function has an empty body, and its contract is the law. They are stated in `specs/Laws.antt`.
 
-ghost use Rattle.state_sums.specs.Laws.{NoNodesLaw, OrderLaw, RenamingLaw, DisjointUnionLaw, ArcLaw, CutLaw, GluingLaw, ReplacementLaw, SameEverywhereLaw, AddedNodesLaw, LocalRenamingLaw, CurlLaw, SecondMoveLaw, ThirdMoveLaw};
+ghost use Rattle.state_sums.specs.Laws.{NoNodesLaw, OrderLaw, RenamingLaw, DisjointUnionLaw, ArcLaw, CutLaw, GluingLaw, ReplacementLaw, SameEverywhereLaw, AddedNodesLaw, LocalRenamingLaw, AnywhereLaw, QuarterTurnLaw, CurlLaw, OtherCurlLaw, SecondMoveLaw, ThirdMoveLaw};
 
 /// A network with no node has one state, the empty one: its value is delta to the power of its free loops.
 pub fn no_nodes()
@@ -57,9 +57,24 @@ pub fn local_renaming()
     ensures { LocalRenamingLaw }
 {}
 
+/// A local equality holds in every network at any names, one to one.
+pub fn anywhere()
+    ensures { AnywhereLaw }
+{}
+
+/// A crossing turned by a quarter, with its weights exchanged, is the same crossing.
+pub fn quarter_turn()
+    ensures { QuarterTurnLaw }
+{}
+
 /// The first Reidemeister move: a curl multiplies by -a^3 (Lickorish, ch. 3).
 pub fn curl()
     ensures { CurlLaw }
+{}
+
+/// The first Reidemeister move: the other curl multiplies by -b^3, where b is the inverse of a (Lickorish, ch. 3).
+pub fn other_curl()
+    ensures { OtherCurlLaw }
 {}
 
 /// The second Reidemeister move (Lickorish, ch. 3).
