@@ -1,7 +1,8 @@
 -- The strands of a diagram: nodes and loops of one more item, and each name stands twice since each label does.
 --
--- Others cite: one_crossing, one_loop, loops_more (a turn of the loop over the items), slots_within, stands_twice, never_miscounted.
-use Rattle.std.proofs.Common.{◌≡◌, ℕ, zero, suc, ◌+◌, ◌*◌, ◌≤◌, ◌<◌, ◌==◌, true, cond, List, [], ◌∷◌, ◌++◌, map, length, get_or, take, refl, sym, ap, ◌∙◌, subst, arith, All, ⊎_elim, append-nil}
+-- Others cite: one_crossing, one_loop, loops_more (a turn of the loop over the items), slots_within, stands_twice, never_miscounted,
+-- weights_below.
+use Rattle.std.proofs.Common.{◌≡◌, ℕ, zero, suc, ◌+◌, ◌-◌, ◌*◌, pos, ◌≤◌, ◌<◌, ◌==◌, true, cond, List, [], ◌∷◌, ◌++◌, map, length, get_or, take, refl, sym, ap, ◌∙◌, subst, arith, All, ⊎_elim, append-nil}
 use Rattle.std.specs.List.{AllByRecursion}
 use Rattle.std.specs.Set.{is_member}
 use Rattle.std.proofs.lemmas.Bool.{eqb-true, or_cases, cases_eq}
@@ -9,14 +10,17 @@ use Rattle.std.proofs.lemmas.Bool.Decides.{nat_tests}
 use Rattle.std.proofs.lemmas.List.{map-append, take_more}
 use Rattle.std.proofs.lemmas.List.Elements.{All-nil, All-cons}
 use Rattle.std.proofs.lemmas.List.Sums.{sum_by-cons, sum_by-append}
-use Rattle.state_sums.specs.Networks.{Node, names_of, times_in}
+use Rattle.ring_identities.specs.Powers.{power}
+use Rattle.ring_identities.proofs.Congruences.{residue_below}
+use Rattle.state_sums.specs.Networks.{Node, Term, names_of, times_in, WeightsBelow}
 use Rattle.root_quantum.specs.Parameters.{Parameters}
 use Rattle.pd_reader.specs.declared.item.Item.{Item}
 use Rattle.pd_reader.specs.declared.item.Item.TheVariants.{X, Loop}
 use Rattle.pd_reader.specs.Items.{item_labels}
 use Rattle.pd_reader.specs.Diagrams.{labels, times, IsLabel}
 use Rattle.arc_pairing.specs.Counts.{StandsTwice, IsLeastMiscount}
-use Rattle.skein_network.specs.Crossings.{crossing_node}
+use Rattle.root_quantum.specs.QuantumNumbers.{inverse_root}
+use Rattle.skein_network.specs.Crossings.{crossing_node, joins_ab_cd, joins_ad_bc}
 use Rattle.skein_network.specs.Brackets.{strand_name, crossing_nodes, loop_count}
 
 crossing_nodes-append : (p : Parameters) (group : ℕ) (xs ys : List Item) →
@@ -143,6 +147,10 @@ stands_twice p items twice x =
     let two = at_label (λ label. times label (labels item_labels items) ≡ 2) r.0 (labels item_labels items) twice (omega (arith, count, some)) in
     ap (times_in (map strand_name (slots_of items))) r.1 ∙ times_in-named r.0 (slots_of items) ∙ omega (arith, count, some, two))
 
+inverse_below : (p : Parameters) → inverse_root p < p.modulus
+unfolding inverse_root
+inverse_below p = residue_below p.modulus (power (pos p.root) (4 * p.level - 1)) (let m = p.meets.modulus.0 in omega (arith, m))
+
 -- no name is miscounted where each stands twice
 pub never_miscounted : (names : List ℕ) (name count : ℕ) → ((x : ℕ) → StandsTwice names x) → IsLeastMiscount names name count → ⊥
 never_miscounted names name count twice h =
@@ -165,3 +173,15 @@ pub one_loop : (p : Parameters) (items : List Item) (i label : ℕ) (old new : L
     old ≡ crossing_nodes p 1 (take i items) → new ≡ old → new ≡ crossing_nodes p 1 (take (i + 1) items)
 one_loop p items i label old new l read old_is new_is =
     new_is ∙ old_is ∙ sym (nodes_more p items i (Loop label) l read ∙ append-nil (crossing_nodes p 1 (take i items)))
+
+-- the weights are residues
+pub weights_below : (p : Parameters) (group : ℕ) (items : List Item) → WeightsBelow p.modulus (crossing_nodes p group items)
+weights_below p group [] = All-nil (λ node. All (λ term. term.weight < p.modulus) node.terms)
+weights_below p group (X slots ∷ items) =
+    let IsLow : Term → Type 0 = λ term. term.weight < p.modulus in
+    let node = crossing_node p group (map strand_name slots) in
+    All-cons (λ node. All (λ term. term.weight < p.modulus) node.terms) node (crossing_nodes p (group + 1) items)
+    (All-cons IsLow record { weight = p.root; partner = joins_ab_cd } (record { weight = inverse_root p; partner = joins_ad_bc } ∷ []) p.meets.root.1
+    (All-cons IsLow record { weight = inverse_root p; partner = joins_ad_bc } [] (inverse_below p) (All-nil IsLow)))
+    (weights_below p (group + 1) items)
+weights_below p group (Loop label ∷ items) = weights_below p group items

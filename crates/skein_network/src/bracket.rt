@@ -1,6 +1,7 @@
 //! The network of a diagram whose components all have colour 1.
 
 ghost use Rattle.std.specs.Prelude.{◌≡◌, ◌≤◌, IfOk, length};
+ghost use Rattle.state_sums.specs.Networks.{WeightsBelow};
 ghost use Rattle.skein_network.specs.Brackets.{bracket_network};
 
 use crate::crossing::crossing_node;
@@ -19,7 +20,8 @@ pub fn bracket_network(
     params: &Params,
     diagram: &Diagram,
 ) -> Result<Network, AllocError>
-    ensures { IfOk result (λ network. network ≡ bracket_network params.now diagram.now) }
+    ensures value { IfOk result (λ network. network ≡ bracket_network params.now diagram.now) }
+    ensures weights { IfOk result (λ network. WeightsBelow params.now.modulus network.nodes) }
 {
     let mut nodes = Vec::new(alloc);
     let mut free = 0;

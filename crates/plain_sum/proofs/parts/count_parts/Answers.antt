@@ -2,7 +2,9 @@ use Rattle.std.proofs.Common.{◌≡◌, ◌==◌, length, map, take, get_or, ap
 use Rattle.std.specs.Set.{distinct_count}
 use Rattle.std.proofs.lemmas.Grind.{common_steps}
 use Rattle.std.proofs.lemmas.List.{get_or_read, length-map}
-use Rattle.graph_parts.specs.Labels.{turned, label_of}
+
+use Rattle.graph_parts.specs.Renaming.{turned}
+use Rattle.graph_parts.specs.Labels.{label_of}
 use Rattle.plain_sum.specs.Places.{named}
 use Rattle.plain_sum.proofs.Labelled.{one_more, counted}
 use Rattle.plain_sum.proofs.parts.count_parts.Goals as goal

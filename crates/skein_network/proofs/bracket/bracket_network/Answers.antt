@@ -1,9 +1,9 @@
-use Rattle.std.proofs.Common.{◌≡◌, ◌+◌, ◌++◌, ◌∷◌, [], take_all, length, length-append, get_or, ap, sym, ◌∙◌, subst, Err, arith}
-use Rattle.state_sums.specs.Networks.{names_of}
+use Rattle.std.proofs.Common.{take, ◌≡◌, ◌+◌, ◌++◌, ◌∷◌, [], take_all, length, length-append, get_or, ap, sym, ◌∙◌, subst, Err, arith}
+use Rattle.state_sums.specs.Networks.{names_of, WeightsBelow}
 use Rattle.pd_reader.specs.declared.item.Item.TheVariants.{X, Loop}
 use Rattle.arc_pairing.specs.Counts.{StandsTwice}
 use Rattle.skein_network.specs.Brackets.{crossing_nodes}
-use Rattle.skein_network.proofs.Strands.{one_crossing, one_loop, loops_more, slots_within, stands_twice, never_miscounted}
+use Rattle.skein_network.proofs.Strands.{one_crossing, one_loop, loops_more, slots_within, stands_twice, never_miscounted, weights_below}
 use Rattle.skein_network.proofs.bracket.bracket_network.Goals as goal
 use Rattle.skein_network.proofs.bracket.bracket_network.Goals.{in-X+in_ok-crossing_node-in-X+in_ok-push-in-X, in-Loop}
 
@@ -60,3 +60,8 @@ unreachable-requires-in-Err-Name c =
     let nodes = c.loop-item.invariant.0 ∙ ap (crossing_nodes c.args.params.now 1) (all ∙ c.items-item-items.ensures.items) in
     never_miscounted (names_of c.loop-item.nodes.items) c.in-Err-Name.field-0-0 c.in-Err-Name.field-0-1
     (λ x. subst (λ ns. StandsTwice (names_of ns) x) (sym nodes) (stands_twice c.args.params.now c.args.diagram.now c.items-item-items.ensures.diagram.twice x)) e
+
+pub returns-in-Ok-clause-weights : goal.returns-in-Ok-clause-weights
+returns-in-Ok-clause-weights c =
+    subst (λ ns. WeightsBelow c.args.params.now.modulus ns) (sym (ap (λ network. network.nodes) c.in-Ok.ensures.made ∙ c.loop-item.invariant.0))
+    (weights_below c.args.params.now 1 (take c.loop-item.item-index c.items-item-items.result.now))

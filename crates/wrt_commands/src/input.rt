@@ -1,0 +1,39 @@
+//! The diagram on the input.
+
+ghost use Rattle.std.specs.Prelude.{◌≡◌, ◌≢◌, OnOk};
+ghost use Rattle.skein_io.specs.Faults.{Rose};
+ghost use Rattle.wrt_commands.specs.declared.refusal.Refusal.TheVariants.{ReadFault};
+
+use crate::refusal::Refusal;
+use pd_reader::{Diagram, TextFault, read_pd};
+use skein_io::{ReadAll, Source, read_all};
+use std::alloc::Global;
+
+/// The most bytes of an input.
+const MOST_BYTES: usize = 1_048_576;
+
+/// All bytes of the source, at most 1,048,576.
+pub(crate) fn read_input<S: Source>(alloc: Global, source: &mut S) -> Result<Vec<u8>, Refusal>
+    ensures read_fault { result ≡ Err ReadFault → Rose (S.faults source.old) (S.faults source.new) }
+    ensures no_fault { result ≢ Err ReadFault → S.faults source.new ≡ S.faults source.old }
+    ensures no_write { result ≢ Err Refusal.WriteFault }
+{
+    match read_all(alloc, source, MOST_BYTES) {
+        Ok(bytes) => Ok(bytes),
+        Err(ReadAll::Fault) => Err(Refusal::ReadFault),
+        Err(ReadAll::TooLong { .. }) => Err(Refusal::TooLong),
+        Err(ReadAll::Memory) => Err(Refusal::Memory),
+    }
+}
+
+/// The diagram that the bytes spell.
+pub(crate) fn read_diagram(alloc: Global, bytes: &[u8]) -> Result<Diagram, Refusal>
+    ensures no_read { result ≢ Err ReadFault }
+    ensures no_write { result ≢ Err Refusal.WriteFault }
+{
+    match read_pd(alloc, bytes) {
+        Ok(diagram) => Ok(diagram),
+        Err(TextFault::Memory) => Err(Refusal::Memory),
+        Err(fault) => Err(Refusal::Text(fault)),
+    }
+}
