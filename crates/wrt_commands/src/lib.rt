@@ -6,6 +6,8 @@ mod input;
 mod parameters;
 mod refusal;
 mod status;
+#[cfg(test)]
+mod tests;
 mod top;
 
 pub use parameters::{ParametersFault, read_parameters};

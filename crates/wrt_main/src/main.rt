@@ -2,11 +2,26 @@
 #![tactic(auto)]
 
 use skein_io::{StdSink, StdSource};
-use std::env;
+use std::alloc::AllocError;
 use std::process::ExitCode;
-use wrt_commands::run;
+use std::{env, io};
+use wrt_commands::{Status, run};
 
-/// Hands the words after the program's name and the standard streams to `run`, and ends with the code of its status.
+/// Hands the words after the program's name and the standard streams to `run`.
+fn calculate(rt: &HostRuntime) -> io::Result<Status> {
+    let words: Vec<String> = env::args(rt)?.skip(1).collect(rt.alloc())?;
+    let words: Vec<&str> = words.iter().map(|word| word.as_str()).collect(rt.alloc())?;
+    let mut source = StdSource::new(rt.stdin());
+    let mut out = StdSink::new(rt.stdout());
+    let mut err = StdSink::new(rt.stderr());
+    Ok(run(rt.alloc(), &words, &mut source, &mut out, &mut err))
+}
+
+/// Ends with the code of the run's status: 2 where the words aren't UTF-8, and 7 where there is no memory for them.
 fn main(rt: HostRuntime) -> ExitCode {
-    ExitCode::SUCCESS
+    match calculate(&rt) {
+        Ok(status) => ExitCode::from(status.code()),
+        Err(error) if error.kind() == io::ErrorKind::OutOfMemory => ExitCode::from(7),
+        Err(_) => ExitCode::from(2),
+    }
 }
