@@ -2,7 +2,9 @@
 ghost use Rattle.std.specs.Prelude.{◌≡◌, ◌+◌, ◌*◌, ◌%◌, ◌<◌};
 ghost use Rattle.residue_ring.specs.Reciprocal.{estimate, EstimateBounds};
 
-// The remainder of the product, by at most two subtractions.
+/// The remainder of the product, by at most two subtractions from what the estimate leaves.
+///
+/// Source: Menezes, van Oorschot and Vanstone, Handbook of Applied Cryptography, 14.3.3.
 pub fn reduce(modulus: u64, shift: u32, reciprocal: u64, product: u128) -> u64
     requires { EstimateBounds modulus shift reciprocal product }
     ensures { result ≡ product % modulus }

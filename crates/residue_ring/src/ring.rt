@@ -12,7 +12,8 @@ use std::marker::Model;
 
 /// The residues modulo m, for an m from 2 to 2^62 - 1. A contract sees a ring as its modulus.
 ///
-/// A residue that is handed in is below m, and so is each that is given back.
+/// A residue that is handed in is below m, and so is each that is given back. Beside m a ring keeps what
+/// `mul` needs to do without a division.
 #[derive(Clone, Copy, Debug, PartialEq, Eq)]
 pub struct Ring {
     modulus: u64,
@@ -25,11 +26,14 @@ impl Model for Ring {
 
     ghost view = { λ ring. ring.modulus };
 
-    ghost invariant = { λ ring. (2 ≤ ring.modulus) × (ring.modulus < 2 ^ 62) × (ring.shift ≡ shift_of ring.modulus) × (ring.reciprocal ≡ reciprocal_of ring.modulus) };
+    ghost invariant = { λ ring.
+        (2 ≤ ring.modulus) × (ring.modulus < 2 ^ 62)
+        × (ring.shift ≡ shift_of ring.modulus) × (ring.reciprocal ≡ reciprocal_of ring.modulus) };
 
     ghost inverse = { λ m. record { modulus = m; shift = shift_of m; reciprocal = reciprocal_of m } };
 
-    ghost inverse_ok = { λ ring kept i. record { modulus = ring.modulus; shift = sym kept.2 i; reciprocal = sym kept.3 i } };
+    ghost inverse_ok = { λ ring kept i.
+        record { modulus = ring.modulus; shift = sym kept.2 i; reciprocal = sym kept.3 i } };
 }
 
 impl Ring {
