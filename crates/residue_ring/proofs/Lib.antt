@@ -1,3 +1,4 @@
 mod Remainders
 mod PowerSteps
 mod EuclidSteps
+mod BarrettBounds

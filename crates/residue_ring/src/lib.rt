@@ -3,6 +3,7 @@
 #![tactic(auto)]
 
 mod fault;
+mod reduction;
 mod ring;
 
 pub use fault::{Common, OutOfRange};

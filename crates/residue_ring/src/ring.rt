@@ -1,18 +1,24 @@
 // The ring of residues modulo m: sums, differences, negatives, products, powers and orders.
-ghost use Rattle.std.specs.Prelude.{◌≡◌, ◌<◌, ◌≤◌, ◌^◌, ◌↔◌, ℕ, pos, neg_ℤ, ◌+ℤ◌, ◌-ℤ◌, ◌*ℤ◌, IfOk, IfErr, IsOk};
+ghost use Rattle.std.specs.Prelude.{◌≡◌, ◌+◌, ◌*◌, ◌%◌, ◌<◌, ◌≤◌, ◌^◌, ◌↔◌, ℕ, pos, neg_ℤ, ◌+ℤ◌, ◌-ℤ◌, ◌*ℤ◌, IfOk, IfErr, IsOk};
 ghost use Rattle.std.specs.Int.{IsGcd};
+ghost use Rattle.std.proofs.Common.{sym};
+ghost use Rattle.residue_ring.specs.Reciprocal.{shift_of, reciprocal_of};
 ghost use Rattle.ring_identities.specs.Residues.{residue, Congruent};
 ghost use Rattle.ring_identities.specs.Powers.{power, IsInverse, IsOrderUpTo};
 
 use crate::fault::{Common, OutOfRange};
+use crate::reduction::reduce;
 use std::marker::Model;
 
 /// The residues modulo m, for an m from 2 to 2^62 - 1. A contract sees a ring as its modulus.
 ///
-/// A residue that is handed in is below m, and so is each that is given back.
+/// A residue that is handed in is below m, and so is each that is given back. Beside m a ring keeps what
+/// `mul` needs to do without a division.
 #[derive(Clone, Copy, Debug, PartialEq, Eq)]
 pub struct Ring {
     modulus: u64,
+    shift: u32,
+    reciprocal: u64,
 }
 
 impl Model for Ring {
@@ -20,9 +26,14 @@ impl Model for Ring {
 
     ghost view = { λ ring. ring.modulus };
 
-    ghost invariant = { λ ring. (2 ≤ ring.modulus) × (ring.modulus < 2 ^ 62) };
+    ghost invariant = { λ ring.
+        (2 ≤ ring.modulus) × (ring.modulus < 2 ^ 62)
+        × (ring.shift ≡ shift_of ring.modulus) × (ring.reciprocal ≡ reciprocal_of ring.modulus) };
 
-    ghost inverse = { λ m. record { modulus = m } };
+    ghost inverse = { λ m. record { modulus = m; shift = shift_of m; reciprocal = reciprocal_of m } };
+
+    ghost inverse_ok = { λ ring kept i.
+        record { modulus = ring.modulus; shift = sym kept.2 i; reciprocal = sym kept.3 i } };
 }
 
 impl Ring {
@@ -36,7 +47,13 @@ impl Ring {
         if m < 2 || m >= 1 << 62 {
             return Err(OutOfRange);
         }
-        Ok(Ring { modulus: m })
+        let shift = 63 - m.leading_zeros();
+        let reciprocal = ((1 << (2 * shift + 2)) / u128::from(m)) as u64;
+        Ok(Ring {
+            modulus: m,
+            shift,
+            reciprocal,
+        })
     }
 
     /// The modulus m.
@@ -100,7 +117,9 @@ impl Ring {
         ensures product { result ≡ residue self.now (pos x *ℤ pos y) }
         ensures below { result < self.now }
     {
-        (u128::from(x) * u128::from(y) % u128::from(self.modulus)) as u64
+        let m = self.modulus;
+        let product = u128::from(x) * u128::from(y);
+        reduce(m, self.shift, self.reciprocal, product)
     }
 
     /// The residue of `base` to the power `e`; with exponent 0 it is 1.

@@ -15,15 +15,33 @@ fn worked_rows(rt: HostRuntime) -> Result<(), Fail> {
         (41, 6, 35, 0, 12, 5),
         (2, 1, 1, 0, 0, 1),
         (TOP, TOP - 2, TOP - 3, TOP - 5, 1, 6),
-        (TOP, TOP - 1, 1_234_567_890_123_456_789, 1_234_567_890_123_456_788, 3_377_118_128_303_931_113, 3_377_118_128_303_931_114),
-        (2_305_843_009_213_693_954, 12_345_678_901_234_567, 98_765_432_109_876_543, 111_111_111_011_111_110, 2_219_423_256_005_051_978, 1_689_114_112_546_158_261),
+        (
+            TOP,
+            TOP - 1,
+            1_234_567_890_123_456_789,
+            1_234_567_890_123_456_788,
+            3_377_118_128_303_931_113,
+            3_377_118_128_303_931_114,
+        ),
+        (
+            2_305_843_009_213_693_954,
+            12_345_678_901_234_567,
+            98_765_432_109_876_543,
+            111_111_111_011_111_110,
+            2_219_423_256_005_051_978,
+            1_689_114_112_546_158_261,
+        ),
     ] {
         let ring = Ring::new(m)?;
         assert_eq!(rt; ring.modulus(), m);
         assert!(rt; x < ring.modulus() && y < ring.modulus());
         assert_eq!(rt; ring.add(x, y), sum, "{x} + {y} modulo {m}");
         assert_eq!(rt; ring.sub(x, y), difference, "{x} - {y} modulo {m}");
-        assert_eq!(rt; ring.neg(ring.sub(y, x)), difference, "{x} - {y} modulo {m}");
+        assert_eq!(rt;
+            ring.neg(ring.sub(y, x)),
+            difference,
+            "{x} - {y} modulo {m}"
+        );
         assert_eq!(rt; ring.mul(x, y), product, "{x} {y} modulo {m}");
     }
 
@@ -32,7 +50,12 @@ fn worked_rows(rt: HostRuntime) -> Result<(), Fail> {
         (41, 2, 19, 21),
         (41, 0, 0, 1),
         (TOP, 7, 1 << 63, 5_764_801),
-        (1_000_000_000_000_000_004, 3, 1_000_000_000_000_000, 577_095_766_373_980_345),
+        (
+            1_000_000_000_000_000_004,
+            3,
+            1_000_000_000_000_000,
+            577_095_766_373_980_345,
+        ),
     ] {
         let ring = Ring::new(m)?;
         assert!(rt; x < ring.modulus());
@@ -43,7 +66,11 @@ fn worked_rows(rt: HostRuntime) -> Result<(), Fail> {
     for (m, x, inverse) in [
         (41, 2, Ok(21)),
         (TOP, 5, Ok(2_767_011_611_056_432_742)),
-        (1_000_000_000_000_000_000, 123_456_789, Ok(56_031_880_109_890_109)),
+        (
+            1_000_000_000_000_000_000,
+            123_456_789,
+            Ok(56_031_880_109_890_109),
+        ),
         (TOP, 12_345, Err(Common { gcd: 3 })),
         (1_000_000_000_000_000_000, 6, Err(Common { gcd: 2 })),
         (41, 0, Err(Common { gcd: 41 })),
@@ -63,7 +90,11 @@ fn worked_rows(rt: HostRuntime) -> Result<(), Fail> {
     ] {
         let ring = Ring::new(m)?;
         assert!(rt; x < ring.modulus());
-        assert_eq!(rt; ring.order(x, at_most), order, "the order of {x} modulo {m}");
+        assert_eq!(rt;
+            ring.order(x, at_most),
+            order,
+            "the order of {x} modulo {m}"
+        );
     }
     Ok(())
 }

@@ -1,8 +1,8 @@
 -- The definitions at worked values: m = 41, A = 2, r = 5, and numbers that are no parameters.
-use Rattle.std.proofs.Common.{◌≡◌, ℕ, ◌+◌, List, [], ◌∷◌, map, pos, negsuc, Some, None, refl}
+use Rattle.std.proofs.Common.{◌≡◌, [], ◌∷◌, map, pos, negsuc, Some, None, refl}
 use Rattle.ring_identities.specs.Residues.{residue}
 use Rattle.ring_identities.specs.Powers.{power, signed_power, order_up_to}
-use Rattle.root_quantum.specs.Parameters.{Parameters, IsParameters}
+use Rattle.root_quantum.specs.Parameters.{Parameters}
 use Rattle.root_quantum.specs.Refusals.{refusal}
 use Rattle.root_quantum.specs.QuantumNumbers.{inverse_root, loop_value, quantum_number, delta, twist_factor, twist}
 use Rattle.root_quantum.specs.declared.fault.ParamFault.TheVariants.{Modulus, Root, Level, Order}

@@ -56,9 +56,20 @@ IsParameters-prop m a r x y = λ i. record {
   order = IsOrder-prop m a (4 * r) x.order y.order i;
 }
 
+-- parameters are told apart by m, A and r
+abbrev pub Numbers : Type 0
+Numbers = ℕ × (ℕ × ℕ)
+
+abbrev pub AreParameters : Numbers → Type 0
+AreParameters t = IsParameters t.0 t.1.0 t.1.1
+
 abbrev pub parameters_code : Coded Parameters
 parameters_code =
-    code_by ((t : ℕ × (ℕ × ℕ)) × IsParameters t.0 t.1.0 t.1.1) (coded_sub (coded× coded_ℕ (coded× coded_ℕ coded_ℕ)) (λ t. IsParameters t.0 t.1.0 t.1.1) (λ t. IsParameters-prop t.0 t.1.0 t.1.1)) (λ p. ((p.modulus, (p.root, p.level)), p.meets)) (λ t. record { modulus = t.0.0; root = t.0.1.0; level = t.0.1.1; meets = t.1 }) (λ _. refl)
+    code_by ((t : Numbers) × AreParameters t)
+    (coded_sub (coded× coded_ℕ (coded× coded_ℕ coded_ℕ)) AreParameters (λ t. IsParameters-prop t.0 t.1.0 t.1.1))
+    (λ p. ((p.modulus, (p.root, p.level)), p.meets))
+    (λ t. record { modulus = t.0.0; root = t.0.1.0; level = t.0.1.1; meets = t.1 })
+    (λ _. refl)
 
 -- the greatest colour: the smaller of r - 1 and 8
 abbrev pub top_colour : Parameters → ℕ

@@ -30,7 +30,8 @@ impl Model for Params {
 
     ghost coded = { parameters_code };
 
-    ghost view = { λ params. record { modulus = params.ring; root = params.root; level = params.level; meets = params.meets } };
+    ghost view = { λ params.
+        record { modulus = params.ring; root = params.root; level = params.level; meets = params.meets } };
 
     ghost inverse = { λ p. record { ring = p.modulus; root = p.root; level = p.level; meets = p.meets } };
 }
