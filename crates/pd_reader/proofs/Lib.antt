@@ -7,3 +7,5 @@ mod Readings
 mod Written
 mod TorusLabels
 mod ReadsBack
+mod UniqueItems
+mod Examples

@@ -1,6 +1,5 @@
 -- Shapes inside shapes: the same contract, Found or Missed, for each reader, whatever comes behind.
-use Rattle.std.proofs.Common.{inl, inr, ◌≡◌, ◌⊎◌, ℕ, suc, ◌+◌, ◌<◌, ◌≤◌, codes, List, [], ◌∷◌, ◌++◌, length, get_or, refl, sym, ap, subst, ◌∙◌, append_assoc, append-nil, arith}
-use Rattle.std.specs.List.{AllByRecursion}
+use Rattle.std.proofs.Common.{inl, inr, ◌≡◌, ◌⊎◌, ℕ, suc, ◌<◌, ◌≤◌, List, [], ◌∷◌, ◌++◌, length, refl, sym, ap, subst, ◌∙◌, append_assoc, append-nil, arith}
 use Rattle.text_shapes.specs.Reach.{IsToken, place}
 use Rattle.text_shapes.specs.Readers.{Accepts, Falls, Found, LeadsTo, Missed, Refuses, Stands}
 use Rattle.text_shapes.proofs.Words.{place-stands}

@@ -1,7 +1,7 @@
 -- Items in brackets, whatever comes behind them.
-use Rattle.std.proofs.Common.{inl, inr, ◌≡◌, ◌⊎◌, ℕ, suc, ◌+◌, ◌<◌, ◌≤◌, codes, List, [], ◌∷◌, ◌++◌, length, get_or, refl, sym, ap, subst, ◌∙◌, append_assoc, append-nil, arith}
+use Rattle.std.proofs.Common.{inl, inr, ◌≡◌, ◌⊎◌, ℕ, ◌+◌, ◌<◌, ◌≤◌, codes, List, [], ◌∷◌, ◌++◌, length, get_or, refl, sym, ap, subst, ◌∙◌, append_assoc, arith}
 use Rattle.std.specs.List.{AllByRecursion}
-use Rattle.text_shapes.specs.Reach.{IsToken, place, step}
+use Rattle.text_shapes.specs.Reach.{IsToken, place}
 use Rattle.text_shapes.specs.Readers.{Found, LeadsTo, Missed, Skips, Stands}
 use Rattle.text_shapes.specs.Shapes.{items_behind, items_inside}
 use Rattle.text_shapes.proofs.Chain.{LeadsTo-renamed, LeadsTo-then, token_stands}
