@@ -1,4 +1,5 @@
--- The marks of a call: a bracket that opens, or a comma.
+-- The marks of a call: the bracket that opens stands before the first argument, and a comma before each
+-- other. A mark is no letter and no digit.
 use Rattle.std.proofs.Common.{◌≡◌, ℕ, true, false, cond, eqb, List, [], ◌∷◌, ◌++◌, refl, sym, ap, ◌∙◌}
 use Rattle.std.specs.List.{AllByRecursion}
 use Rattle.text_shapes.specs.Reach.{IsToken, is_word_byte}

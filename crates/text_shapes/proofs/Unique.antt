@@ -99,10 +99,10 @@ abbrev pub Tells : {V : Type 0} → (V → Type 0) → (V → List (List ℕ)) �
 Tells {V} fits tokens = (v w : V) (more other : List (List ℕ)) (bs : List ℕ) → fits v → fits w → IsSpelled (tokens v ++ more) bs → IsSpelled (tokens w ++ other) bs → (v ≡ w) × Left more other
 
 module _ {A : Type 0} (token : A → List ℕ) (is_argument : A → Type 0) (word : (a : A) → is_argument a → IsWord (token a)) (apart : (a b : A) → is_argument a → is_argument b → token a ≡ token b → a ≡ b) where
-  comma_marked : (as_ : List A) (more : List (List ℕ)) → IsMarked (arguments token (codes ",") as_ ++ more)
+  comma_marked : (rest : List A) (more : List (List ℕ)) → IsMarked (arguments token (codes ",") rest ++ more)
   unfolding is_word_byte
   comma_marked [] more = refl
-  comma_marked (a ∷ as_) more = refl
+  comma_marked (a ∷ rest) more = refl
 
   -- one argument more, where the others are told
   arguments_step : (m : ℕ) → is_space m ≡ false → (x y : A) (xs ys : List A) (more other : List (List ℕ)) (bs : List ℕ) → is_argument x → is_argument y
@@ -141,10 +141,10 @@ module _ {A : Type 0} (token : A → List ℕ) (is_argument : A → Type 0) (wor
   arguments_tell (x ∷ xs) [] more other bs hx hy h k = absurd (close_or_open other (token x ∷ (arguments token (codes ",") xs ++ more)) bs k h)
   arguments_tell (x ∷ xs) (y ∷ ys) more other bs hx hy h k = arguments_step 91 open_no_space x y xs ys more other bs hx.0 hy.0 h k (λ rest h' k'. commas_tell xs ys more other rest hx.1 hy.1 h' k')
 
-  open_marked : (as_ : List A) (more : List (List ℕ)) → IsMarked (arguments token (codes "[") as_ ++ more)
+  open_marked : (rest : List A) (more : List (List ℕ)) → IsMarked (arguments token (codes "[") rest ++ more)
   unfolding is_word_byte
   open_marked [] more = refl
-  open_marked (a ∷ as_) more = refl
+  open_marked (a ∷ rest) more = refl
 
   -- a value that is a call is told by its head and its arguments
   pub call_tells : {V : Type 0} (fits : V → Type 0) (tokens : V → List (List ℕ)) (head : V → List ℕ) (arguments_of : V → List A) (back : List ℕ → List A → V)
