@@ -1,7 +1,5 @@
 -- An item is one of a few calls: of X or Loop in a diagram, of X, Y or Loop in a net.
-use Rattle.std.proofs.Common.{inl, inr, ◌≡◌, ℕ, cond, ◌||◌, codes, List, [], ◌∷◌, length, get_or, refl, ap, arith, decimal}
-use Rattle.std.specs.List.{AllByRecursion}
-use Rattle.text_shapes.specs.Tokens.{IsNumber}
+use Rattle.std.proofs.Common.{inl, inr, ◌≡◌, ℕ, cond, codes, List, [], ◌∷◌, length, get_or, refl, ap, arith, decimal}
 use Rattle.text_shapes.specs.Shapes.{AreOf, call}
 use Rattle.text_shapes.specs.Reach.{is_word_byte, IsWord}
 use Rattle.text_shapes.proofs.Choice.{AreCalls, Makes, OneOf, same_bytes}

@@ -1,9 +1,8 @@
 -- The labels of one item more, what holds of one more, and what it means that there is no reason
 -- against the items.
-use Rattle.std.proofs.Common.{inl, inr, ◌≡◌, ℕ, ◌≤◌, ◌<◌, ltb, Bool, true, false, cond, length, Option, Some, None, option_map, arith, List, [], ◌∷◌, ◌++◌, refl, sym, ap, ◌∙◌, append_assoc, append-nil}
+use Rattle.std.proofs.Common.{inl, inr, ◌≡◌, ℕ, ltb, false, length, Option, Some, None, option_map, List, [], ◌∷◌, ◌++◌, refl, sym, ap, ◌∙◌, append_assoc, append-nil}
 use Rattle.std.specs.List.{AllByRecursion}
 use Rattle.std.proofs.lemmas.Bool.{cases_Bool, ltb-false, le-ltb}
-use Rattle.pd_reader.specs.declared.fault.DiagramFault.{DiagramFault}
 use Rattle.pd_reader.specs.declared.fault.DiagramFault.TheVariants as faults
 use Rattle.pd_reader.specs.Diagrams.{labels, times, least_unpaired, refusal, IsLabel, IsPaired}
 use Rattle.pd_reader.proofs.Least.{each_stands_twice, none_is_unpaired}

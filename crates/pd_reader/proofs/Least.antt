@@ -2,7 +2,7 @@
 -- the least so far, or isn't.
 --
 --     least_among ls front     the least label of the front that doesn't stand twice in ls
-use Rattle.std.proofs.Common.{inl, inr, ◌≡◌, ℕ, ◌+◌, ◌<◌, ◌≤◌, ◌==◌, eqb, Bool, true, false, not, cond, min, List, [], ◌∷◌, ◌++◌, length, take, get_or, append-nil, filter, Option, Some, None, option_map, unwrap_or, refl, sym, ap, ◌∙◌, arith}
+use Rattle.std.proofs.Common.{inl, inr, ◌≡◌, ℕ, ◌==◌, eqb, Bool, true, false, not, min, List, [], ◌∷◌, ◌++◌, append-nil, filter, Option, Some, None, option_map, unwrap_or, refl, ap, ◌∙◌, arith}
 use Rattle.std.proofs.lemmas.Bool.{cases_Bool, eqb-true, eq-eqb}
 use Rattle.std.proofs.lemmas.List.Elements.{filter-append}
 use Rattle.std.specs.List.{AllByRecursion}

@@ -1,9 +1,11 @@
-mod Least
-mod Labels
-mod StopLemmas
-mod ItemCalls
-mod TextTokens
-mod Readings
+pub mod Least
+pub mod Labels
+pub mod ItemCalls
+pub mod TextTokens
+pub mod StopLemmas
+pub mod Readings
 mod Written
-mod TorusLabels
 mod ReadsBack
+mod UniqueItems
+mod TorusLabels
+mod Examples

@@ -4,7 +4,7 @@
 --     answers_refused    they were read, and there is one
 --     answers_stopped    the bytes are no text
 --     refused_text, refused_place   the same as what a refusal says
-use Rattle.std.proofs.Common.{inl, inr, ◌≡◌, ◌⊎◌, ℕ, ◌≤◌, List, [], ◌∷◌, length, Option, Some, None, Result, Ok, Err, refl, sym, ap, subst, ◌∙◌}
+use Rattle.std.proofs.Common.{inl, inr, ◌≡◌, ◌⊎◌, ℕ, List, Option, Some, None, Ok, Err, refl, sym, ap, subst}
 use Rattle.std.specs.List.{AllByRecursion}
 use Rattle.text_shapes.specs.Shapes.{IsText}
 use Rattle.text_shapes.specs.Reach.{AreTokens}

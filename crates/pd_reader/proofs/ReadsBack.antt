@@ -1,13 +1,13 @@
 -- Items whose labels are numbers of texts are items of texts.
-use Rattle.std.proofs.Common.{◌≡◌, ℕ, List, [], ◌∷◌, ◌++◌, length, refl}
+use Rattle.std.proofs.Common.{ℕ, List, [], ◌∷◌, ◌++◌, refl}
 use Rattle.std.specs.List.{AllByRecursion}
 use Rattle.text_shapes.specs.Tokens.{IsNumber}
 use Rattle.text_shapes.proofs.Spellings.{IsSpelled-concat}
 use Rattle.pd_reader.specs.declared.item.Item.{Item}
 use Rattle.pd_reader.specs.declared.item.Item.TheVariants as items
 use Rattle.pd_reader.specs.Items.{item_labels, HasItsSlots}
-use Rattle.pd_reader.specs.Diagrams.{labels, IsDiagram}
-use Rattle.pd_reader.specs.Texts.{IsTextItem, pd_tokens, IsPdText, written}
+use Rattle.pd_reader.specs.Diagrams.{labels}
+use Rattle.pd_reader.specs.Texts.{IsTextItem, pd_tokens}
 use Rattle.pd_reader.specs.Laws.{WrittenIsRead}
 
 front_part : (xs ys : List ℕ) → AllByRecursion IsNumber (xs ++ ys) → AllByRecursion IsNumber xs

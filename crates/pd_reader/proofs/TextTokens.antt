@@ -1,8 +1,7 @@
 -- Each text of a diagram or a net is of tokens, and its labels are labels of a diagram.
-use Rattle.std.proofs.Common.{inl, inr, ◌≡◌, ℕ, ◌≤◌, codes, List, [], ◌∷◌, ◌++◌, length, decimal, refl, arith}
+use Rattle.std.proofs.Common.{ℕ, codes, List, [], ◌∷◌, ◌++◌, decimal, refl, arith}
 use Rattle.std.specs.List.{AllByRecursion}
 use Rattle.text_shapes.specs.Tokens.{is_space, IsNumber}
-use Rattle.text_shapes.specs.Shapes.{arguments, call, items_behind, listed}
 use Rattle.text_shapes.specs.Reach.{IsToken, AreTokens}
 use Rattle.text_shapes.proofs.Words.{IsWord-token}
 use Rattle.text_shapes.proofs.Numbers.{decimal-word}

@@ -8,8 +8,6 @@
 --                                    are refused for it. IsNetRefusal is the same for a net
 use Rattle.std.specs.Prelude.{◌≡◌, ◌⊎◌, ℕ, List, Option, Some, None, Result, Ok, Err}
 use Rattle.std.specs.List.{AllByRecursion}
-use Rattle.pd_reader.specs.declared.item.Item.{Item}
-use Rattle.pd_reader.specs.declared.item.NetItem.{NetItem}
 use Rattle.pd_reader.specs.declared.fault.DiagramFault.{DiagramFault}
 use Rattle.pd_reader.specs.declared.fault.DiagramFault.TheVariants as reasons
 use Rattle.pd_reader.specs.declared.fault.TextFault.{TextFault}

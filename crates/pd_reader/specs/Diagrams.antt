@@ -9,7 +9,7 @@
 --     IsDiagram items               the items are a diagram's, and IsNet items a net's
 --
 -- For X[1,1,1,2] the least label that doesn't stand twice is 1, which stands three times.
-use Rattle.std.specs.Prelude.{◌≡◌, ℕ, ◌<◌, ◌≤◌, ◌==◌, Bool, not, cond, nat_lt, min, List, [], ◌∷◌, ◌++◌, length, count_by, filter, Option, Some, None, option_map, unwrap_or}
+use Rattle.std.specs.Prelude.{◌≡◌, ℕ, ◌≤◌, ◌==◌, not, cond, nat_lt, min, List, [], ◌∷◌, ◌++◌, length, count_by, filter, Option, Some, None, option_map, unwrap_or}
 use Rattle.std.specs.List.{AllByRecursion}
 use Rattle.pd_reader.specs.declared.item.Item.{Item}
 use Rattle.pd_reader.specs.declared.item.NetItem.{NetItem}

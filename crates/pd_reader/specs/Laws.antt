@@ -1,12 +1,12 @@
 -- Laws over the definitions alone.
-use Rattle.std.specs.Prelude.{◌≡◌, ◌+◌, ℕ, List, [], ◌∷◌, None}
+use Rattle.std.specs.Prelude.{◌≡◌, ℕ, List, None}
 use Rattle.std.specs.List.{AllByRecursion}
 use Rattle.pd_reader.specs.declared.item.Item.{Item}
 use Rattle.pd_reader.specs.declared.item.NetItem.{NetItem}
 use Rattle.text_shapes.specs.Tokens.{IsNumber}
 use Rattle.pd_reader.specs.Items.{item_labels, net_item_labels}
 use Rattle.pd_reader.specs.Diagrams.{labels, refusal, IsDiagram, IsNet}
-use Rattle.pd_reader.specs.Texts.{IsPdText, written}
+use Rattle.pd_reader.specs.Texts.{IsPdText, IsNetText, written}
 
 -- there is no reason against the items of a diagram, and none against those of a net
 abbrev pub DiagramsAreUnrefused : Type 0
@@ -15,3 +15,7 @@ DiagramsAreUnrefused = ((items : List Item) → IsDiagram items → refusal item
 -- where each label is a number of texts, the canonical spelling of a diagram is a text of it
 abbrev pub WrittenIsRead : Type 0
 WrittenIsRead = (items : List Item) → IsDiagram items → AllByRecursion IsNumber (labels item_labels items) → IsPdText (written items) items
+
+-- bytes are a text of at most one list of items
+abbrev pub TextsAreUnique : Type 0
+TextsAreUnique = ((bytes : List ℕ) (xs ys : List Item) → IsPdText bytes xs → IsPdText bytes ys → xs ≡ ys) × ((bytes : List ℕ) (xs ys : List NetItem) → IsNetText bytes xs → IsNetText bytes ys → xs ≡ ys)

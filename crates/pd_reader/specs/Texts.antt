@@ -6,7 +6,7 @@
 --     written items                 the canonical spelling of a diagram
 --
 -- "PD[Loop[1]]" is written (Loop 1 ∷ []), and " PD [ Loop[1] ]" is another text of these items.
-use Rattle.std.specs.Prelude.{◌≡◌, ℕ, ◌<◌, List, [], ◌∷◌, ◌++◌, length, codes, decimal}
+use Rattle.std.specs.Prelude.{◌≡◌, ℕ, List, [], ◌∷◌, length, codes, decimal}
 use Rattle.std.specs.List.{AllByRecursion, concat}
 use Rattle.std.proofs.Common.{lit<}
 use Rattle.pd_reader.specs.declared.item.Item.{Item}

@@ -62,8 +62,8 @@ fn separator(i: usize) -> u8
     if i == 0 { b'[' } else { b',' }
 }
 
-/// Reads `head[a,..,a]` with an argument for each slot, which takes the slot's place. It says where the
-/// call ends, or how far the bytes go on as one; then the slots hold what was read before.
+/// Reads `head[a,..,a]`, with an argument for each slot, which takes the slot's place. It says where the
+/// call ends, or how far the bytes go on as one; of the slots nothing is said then.
 pub fn read_call<A: Argument>(
     bytes: &[u8],
     at: usize,

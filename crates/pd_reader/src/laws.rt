@@ -1,6 +1,6 @@
 //! Laws over the definitions alone: the facts that these functions ensure, which do nothing.
 
-ghost use Rattle.pd_reader.specs.Laws.{DiagramsAreUnrefused, WrittenIsRead};
+ghost use Rattle.pd_reader.specs.Laws.{DiagramsAreUnrefused, TextsAreUnique, WrittenIsRead};
 
 /// There is no reason against the items of a diagram or a net. So `Diagram::new` answers them with a
 /// diagram, or memory runs out, and a text of them is read.
@@ -12,4 +12,9 @@ pub fn diagrams_are_unrefused()
 /// `read_pd` of what `write_pd` wrote gives the same diagram, or memory runs out.
 pub fn written_is_read()
     ensures { WrittenIsRead }
+{}
+
+/// Bytes are a text of at most one list of items, of a diagram and of a net.
+pub fn texts_are_unique()
+    ensures { TextsAreUnique }
 {}

@@ -23,3 +23,6 @@ pub use scan::{agree, finish, mark, number, skip, stands, word};
 pub use text::{read_net, read_pd};
 pub use torus_link::torus;
 pub use write::write_pd;
+
+#[cfg(test)]
+mod tests;

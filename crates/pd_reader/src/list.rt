@@ -31,7 +31,7 @@ pub trait TextItem: Copy {
 }
 
 /// Reads `,item,..,item]`, with any number of items, and puts them behind those of `items`. It says where
-/// the list ends, or how far the bytes go on as one; then `items` has some more.
+/// the list ends, or how far the bytes go on as one; of `items` nothing is said then.
 pub fn read_behind<I: TextItem>(bytes: &[u8], at: usize, items: &mut Vec<I>) -> Result<usize, Stop>
     requires { at ≤ length bytes.now }
     ensures ok { IfOk result (λ next. (read : List I) × (items.new.items ≡ items.old.items ++ read)

@@ -1,5 +1,14 @@
 -- A call read argument by argument, of any kinds.
-use Rattle.std.proofs.Common.{inl, inr, ◌≡◌, ◌⊎◌, ℕ, suc, ◌+◌, ◌<◌, ◌≤◌, true, false, codes, List, [], ◌∷◌, ◌++◌, length, drop, refl, sym, ap, subst, ◌∙◌, append_assoc, append-nil, arith}
+--
+-- `ArgsSoFar` says where a reader stands: the head and some arguments are read up to here, any call that
+-- may stand there goes on with them, and each other breaks off before here. It holds behind the head,
+-- and each argument that is found keeps it; where a mark or an argument is missing, each call breaks off
+-- at the same place, so none is found.
+--
+--     args_begun, args_more, args_whole       the head stands, an argument more stands, the call is whole
+--     args_head_missing, arg_mark_missing,
+--     arg_missing, arg_close_missing          what is missing
+use Rattle.std.proofs.Common.{inl, inr, ◌≡◌, ◌⊎◌, ℕ, ◌+◌, ◌≤◌, true, codes, List, [], ◌∷◌, ◌++◌, length, drop, refl, sym, ap, subst, ◌∙◌, append_assoc, append-nil, arith}
 use Rattle.std.specs.List.{AllByRecursion}
 use Rattle.std.proofs.lemmas.Bool.{ne_eqb}
 use Rattle.text_shapes.specs.Reach.{IsMarked, IsWord, is_word_byte, place, start}

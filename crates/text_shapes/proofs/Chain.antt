@@ -1,6 +1,12 @@
--- Shapes inside shapes: the same contract, Found or Missed, for each reader, whatever comes behind.
-use Rattle.std.proofs.Common.{inl, inr, ◌≡◌, ◌⊎◌, ℕ, suc, ◌+◌, ◌<◌, ◌≤◌, codes, List, [], ◌∷◌, ◌++◌, length, get_or, refl, sym, ap, subst, ◌∙◌, append_assoc, append-nil, arith}
-use Rattle.std.specs.List.{AllByRecursion}
+-- Parts of values that follow each other. Where one part is read, what may stand from there on is what
+-- is left of the values that begin with it; so a reader of a part is one step of the reader of the whole.
+--
+--     LeadsTo-then                   two steps, one after the other
+--     LeadsTo-found, LeadsTo-missed  what is found or missed behind the steps is, of the whole
+--     part_found, part_missed        a value that is a pair of parts
+--     token_stands, token_falls      a token before each value
+--     found_accepts, found_refuses, missed_refuses   from a part to all the bytes
+use Rattle.std.proofs.Common.{inl, inr, ◌≡◌, ◌⊎◌, ℕ, suc, ◌<◌, ◌≤◌, List, [], ◌∷◌, ◌++◌, length, refl, sym, ap, subst, ◌∙◌, append_assoc, append-nil, arith}
 use Rattle.text_shapes.specs.Reach.{IsToken, place}
 use Rattle.text_shapes.specs.Readers.{Accepts, Falls, Found, LeadsTo, Missed, Refuses, Stands}
 use Rattle.text_shapes.proofs.Words.{place-stands}

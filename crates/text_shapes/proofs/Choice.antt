@@ -6,8 +6,7 @@
 --     choice_missed         it doesn't, so none of the values with this head stands
 --     both_missed           nor does any with the other heads
 --     all_missed            and these are all the heads
-use Rattle.std.proofs.Common.{inl, inr, ◌≡◌, ◌⊎◌, ℕ, max, Bool, true, false, eqb, ◌&&◌, List, [], ◌∷◌, length, get_or, refl, sym, ap, subst, ◌∙◌, arith}
-use Rattle.std.specs.List.{AllByRecursion}
+use Rattle.std.proofs.Common.{inl, inr, ◌≡◌, ◌⊎◌, ℕ, max, Bool, true, false, eqb, ◌&&◌, List, [], ◌∷◌, refl, sym, ap, subst, ◌∙◌, arith}
 use Rattle.std.proofs.lemmas.Bool.{cases_eq, cases_lt}
 use Rattle.text_shapes.specs.Shapes.{AreOf, call}
 use Rattle.text_shapes.specs.Reach.{IsWord}

@@ -14,3 +14,5 @@ pub mod Slots
 pub mod Marked
 pub mod TokenLists
 pub mod Spellings
+mod Examples
+pub mod Unique

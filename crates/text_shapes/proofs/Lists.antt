@@ -1,7 +1,13 @@
--- Items in brackets, whatever comes behind them.
-use Rattle.std.proofs.Common.{inl, inr, ◌≡◌, ◌⊎◌, ℕ, suc, ◌+◌, ◌<◌, ◌≤◌, codes, List, [], ◌∷◌, ◌++◌, length, get_or, refl, sym, ap, subst, ◌∙◌, append_assoc, append-nil, arith}
+-- Items in brackets, whatever comes behind them: each item that is found is one step (`LeadsTo`) from
+-- what may come behind a list so far to what may come behind it and the item.
+--
+--     chain_opened, chain_begun       the head, the bracket, and the first item
+--     chain_turn                      a comma and an item more
+--     chain_none, chain_closed        the bracket that closes
+--     chain_inside_missed, chain_behind_missed, chain_nothing   what is missing
+use Rattle.std.proofs.Common.{inl, inr, ◌≡◌, ◌⊎◌, ℕ, ◌+◌, ◌<◌, ◌≤◌, codes, List, [], ◌∷◌, ◌++◌, length, get_or, refl, sym, ap, subst, ◌∙◌, append_assoc, arith}
 use Rattle.std.specs.List.{AllByRecursion}
-use Rattle.text_shapes.specs.Reach.{IsToken, place, step}
+use Rattle.text_shapes.specs.Reach.{IsToken, place}
 use Rattle.text_shapes.specs.Readers.{Found, LeadsTo, Missed, Skips, Stands}
 use Rattle.text_shapes.specs.Shapes.{items_behind, items_inside}
 use Rattle.text_shapes.proofs.Chain.{LeadsTo-renamed, LeadsTo-then, token_stands}

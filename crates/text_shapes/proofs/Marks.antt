@@ -1,8 +1,7 @@
--- The marks of a call: a bracket that opens, or a comma.
-use Rattle.std.proofs.Common.{inl, inr, ◌≡◌, ◌⊎◌, ℕ, zero, suc, ◌+◌, ◌-◌, ◌<◌, ◌≤◌, true, false, cond, eqb, codes, List, [], ◌∷◌, ◌++◌, length, drop, decimal, replicate, refl, sym, ap, subst, ◌∙◌, append_assoc, append-nil, arith, length-append}
+-- The marks of a call: the bracket that opens stands before the first argument, and a comma before each
+-- other. A mark is no letter and no digit.
+use Rattle.std.proofs.Common.{◌≡◌, ℕ, true, false, cond, eqb, List, [], ◌∷◌, ◌++◌, refl, sym, ap, ◌∙◌}
 use Rattle.std.specs.List.{AllByRecursion}
-use Rattle.std.proofs.lemmas.Bool.{ne_eqb}
-use Rattle.std.proofs.lemmas.List.{length-replicate, length_push}
 use Rattle.text_shapes.specs.Reach.{IsToken, is_word_byte}
 use Rattle.text_shapes.specs.Readers.{separator_of}
 use Rattle.text_shapes.specs.Tokens.{IsSpace, is_space}

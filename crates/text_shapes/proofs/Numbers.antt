@@ -1,4 +1,7 @@
--- The longest number beats each other number.
+-- Where the longest number stands, each other number breaks off no later than it ends, and where none
+-- begins each breaks off at once.
+--
+--     number_found, number_missed    the same behind white space
 use Rattle.std.proofs.Common.{inl, inr, ◌≡◌, ◌⊎◌, ℕ, ◌+◌, ◌*◌, ◌/◌, ◌%◌, ◌^◌, ◌-◌, ◌<◌, ◌≤◌, true, false, leb, List, [], ◌∷◌, ◌++◌, length, drop, get_or, decimal, refl, sym, ap, subst, ◌∙◌, arith, length-append, length-drop}
 use Rattle.std.specs.List.{AllByRecursion}
 use Rattle.std.specs.Str.Parse.{AllDigits}

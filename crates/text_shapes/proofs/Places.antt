@@ -1,6 +1,9 @@
--- Items in brackets, one by one.
-use Rattle.std.proofs.Common.{inl, inr, ◌≡◌, ◌⊎◌, ℕ, suc, ◌+◌, ◌<◌, ◌≤◌, false, List, [], ◌∷◌, ◌++◌, length, drop, get_or, refl, sym, ap, subst, ◌∙◌, arith, zero-le}
-use Rattle.std.specs.List.{AllByRecursion}
+-- How far bytes go on from a place that holds no white space, by the byte that stands there.
+--
+--     place-skips                   white space is passed over
+--     place-mark, place-no_mark     a mark stands there, or doesn't
+--     place-end, place-rest         the end does, or something else
+use Rattle.std.proofs.Common.{inl, inr, ◌≡◌, ℕ, suc, ◌+◌, ◌<◌, ◌≤◌, false, List, [], ◌∷◌, length, drop, get_or, refl, ap, ◌∙◌, arith}
 use Rattle.std.proofs.lemmas.Bool.{cases_lt, ne_eqb, eq-eqb}
 use Rattle.std.proofs.lemmas.List.{drop_more, drop_all}
 use Rattle.text_shapes.specs.Reach.{place, reach}

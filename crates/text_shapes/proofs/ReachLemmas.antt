@@ -1,4 +1,9 @@
--- What is spelled so, and what begins a text that is, by how far the input goes on.
+-- How far bytes go on as tokens say tells what they are: they are spelled by these tokens where they reach
+-- past their end, and a front of n bytes begins such a text where they reach n. Each is an induction on
+-- the bytes.
+--
+--     reach-spelled, spelled-reach    spelled, and past the end
+--     reach_local, reach_completes    the beginning of a text, and n bytes
 use Rattle.std.proofs.Common.{inl, inr, ◌≡◌, ℕ, zero, suc, ◌+◌, ◌<◌, ◌≤◌, Bool, true, false, cond, eqb, List, [], ◌∷◌, ◌++◌, length, take, Option, Some, None, refl, sym, ap, subst, ◌∙◌, arith, le_of_suc-le-suc, suc-le-suc, zero-le, length-append}
 use Rattle.std.specs.List.{AllByRecursion}
 use Rattle.std.proofs.lemmas.Bool.{eqb-true, eq-eqb, cases_Bool}

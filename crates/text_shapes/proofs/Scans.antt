@@ -1,4 +1,6 @@
--- One more byte of white space, of a word, of a number.
+-- One byte more of white space, of a word, of a number, and what a scan of these says of how far the bytes
+-- go on: where a word stands they go on behind it, and where it doesn't they go on up to its first byte
+-- that differs.
 use Rattle.std.proofs.Common.{inl, inr, ◌≡◌, ℕ, suc, ◌+◌, ◌*◌, ◌/◌, ◌%◌, ◌<◌, ◌≤◌, true, false, eqb, leb, List, [], ◌∷◌, ◌++◌, length, drop, get_or, decimal, refl, sym, ap, ◌∙◌, append_assoc, arith, length-append, length-drop, drop-drop, add-zero, zero-le, suc-le-suc, get_or-drop}
 use Rattle.std.specs.List.{AllByRecursion}
 use Rattle.std.proofs.lemmas.Bool.{eqb-true, eq-eqb, ne_eqb, cases_Bool, and_parts, leb-true}

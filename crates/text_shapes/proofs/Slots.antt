@@ -1,6 +1,6 @@
 -- One turn of the reading of a call whose slots hold, before they are read, the kinds of what is to
 -- stand there, and afterwards what was read.
-use Rattle.std.proofs.Common.{◌≡◌, ℕ, ◌+◌, ◌<◌, List, [], ◌∷◌, ◌++◌, length, take, drop, get_or, set, refl, sym, ap, subst, ◌∙◌, arith}
+use Rattle.std.proofs.Common.{◌≡◌, ℕ, ◌+◌, ◌<◌, List, [], ◌∷◌, length, take, drop, get_or, set, sym, ap, subst, ◌∙◌, arith}
 use Rattle.std.proofs.lemmas.List.{drop_more, drop-drop, drop-set-lt, take_more_set, drop_all, take_all}
 use Rattle.text_shapes.specs.Shapes.{AreOf, call}
 use Rattle.text_shapes.specs.Reach.{IsWord}

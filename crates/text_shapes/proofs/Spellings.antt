@@ -1,5 +1,5 @@
 -- Tokens with nothing between them spell themselves.
-use Rattle.std.proofs.Common.{◌≡◌, ℕ, List, [], ◌∷◌, ◌++◌, refl}
+use Rattle.std.proofs.Common.{ℕ, List, [], ◌∷◌, refl}
 use Rattle.std.specs.List.{concat}
 use Rattle.text_shapes.specs.Tokens.{IsSpelled}
 

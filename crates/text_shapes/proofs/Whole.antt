@@ -1,4 +1,5 @@
--- What is accepted is the text of the value alone, and what is refused is refused where it stops being the beginning of a text.
+-- What is accepted is a text of the value and of no other, and what is refused is no text, and is refused
+-- where it stops being the beginning of one. The one premise is that each text is of tokens.
 use Rattle.std.proofs.Common.{inl, inr, ◌≡◌, ℕ, ◌<◌, ◌≤◌, List, [], ◌++◌, length, take, drop, subst, arith, take-append-drop, length-take-le, length-append}
 use Rattle.text_shapes.specs.Reach.{AreTokens, place, reach}
 use Rattle.text_shapes.specs.Readers.{Accepts, Refuses}

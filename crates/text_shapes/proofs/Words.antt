@@ -1,5 +1,6 @@
--- A word that stands beats each other word.
-use Rattle.std.proofs.Common.{inl, inr, ◌≡◌, ℕ, suc, ◌+◌, ◌≤◌, true, false, eqb, leb, ◌||◌, ◌&&◌, List, [], ◌∷◌, ◌++◌, length, drop, None, refl, sym, ap, subst, ◌∙◌, arith, zero-le, suc-le-suc}
+-- Where a word stands, each other breaks off no later than it ends, unless it has the word in front and the
+-- byte behind it too. So no reader looks ahead: each alternative is tried, and the furthest place counts.
+use Rattle.std.proofs.Common.{inl, inr, ◌≡◌, ℕ, suc, ◌+◌, ◌≤◌, true, false, eqb, leb, ◌&&◌, List, [], ◌∷◌, ◌++◌, length, drop, None, refl, sym, ap, subst, ◌∙◌, arith, zero-le, suc-le-suc}
 use Rattle.std.specs.List.{AllByRecursion}
 use Rattle.std.proofs.lemmas.Bool.{eqb-true, ne_eqb, cases_Bool, or_cases, and_parts, leb-true}
 use Rattle.text_shapes.specs.Reach.{IsMarked, IsToken, IsWord, is_digit, is_letter, is_word_byte, place, reach, step}

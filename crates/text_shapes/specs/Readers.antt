@@ -10,7 +10,7 @@
 --     Found, Missed                    the tokens of a value stand, or those of none do
 --     Accepts, Refuses                 the same of all the bytes
 --     LeadsTo                          what may stand from one place on is what may from another
-use Rattle.std.specs.Prelude.{◌≡◌, ℕ, suc, ◌+◌, ◌<◌, ◌≤◌, ◌⊎◌, false, cond, ◌==◌, List, [], ◌∷◌, ◌++◌, length, drop, slice_index, decimal}
+use Rattle.std.specs.Prelude.{◌≡◌, ℕ, ◌+◌, ◌<◌, ◌≤◌, ◌⊎◌, false, cond, ◌==◌, List, ◌∷◌, ◌++◌, length, drop, slice_index, decimal}
 use Rattle.std.specs.List.{AllByRecursion}
 use Rattle.text_shapes.specs.Tokens.{is_space, IsSpace, IsNumber}
 use Rattle.text_shapes.specs.Shapes.{call}

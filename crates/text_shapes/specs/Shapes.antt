@@ -8,7 +8,7 @@
 --                                               that is the beginning of some text of the shape
 --     call token head arguments              head[a,..,a]
 --     bracketed item values                  [v,..,v], and items_behind item values is ,v,..,v]
-use Rattle.std.specs.Prelude.{◌≡◌, ℕ, ◌≤◌, List, [], ◌∷◌, ◌++◌, length, take, codes}
+use Rattle.std.specs.Prelude.{ℕ, ◌≤◌, List, [], ◌∷◌, ◌++◌, length, take, codes}
 use Rattle.text_shapes.specs.Tokens.{IsSpelled}
 
 module _ {V : Type 0} (fits : V → Type 0) (tokens : V → List (List ℕ)) where

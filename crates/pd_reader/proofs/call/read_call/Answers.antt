@@ -1,4 +1,4 @@
-use Rattle.std.proofs.Common.{◌≡◌, ◌+◌, ◌<◌, length, refl, arith, subst, ℕ, [], ◌∷◌}
+use Rattle.std.proofs.Common.{◌<◌, length, refl, arith, subst, ℕ, [], ◌∷◌}
 use Rattle.std.proofs.lemmas.Result.{err_from_is_err_and, IfOk-weaker, IfErr-weaker}
 use Rattle.text_shapes.specs.Tokens.{is_space}
 use Rattle.text_shapes.specs.Readers.{Stands, Falls, TokenFound, TokenMissed}

@@ -1,7 +1,5 @@
 use Rattle.std.proofs.Common.{◌≡◌, ◌+◌, ap, sym, ◌∙◌, ◌++◌, ◌∷◌, [], take, arith}
 use Rattle.std.proofs.lemmas.List.{take_more}
-use Rattle.std.specs.List.{AllByRecursion}
-use Rattle.pd_reader.specs.Diagrams.{labels}
 use Rattle.pd_reader.proofs.Labels.{labels-push, All-push}
 use Rattle.pd_reader.proofs.label.labels.Goals as goal
 

@@ -1,4 +1,4 @@
-use Rattle.std.proofs.Common.{◌≡◌, refl, sym, ap, ◌∙◌, ◌++◌, List, ℕ, [], ◌∷◌, not, true, false, take, get_or, eq-eqb, ne_eqb, Option, Some, None}
+use Rattle.std.proofs.Common.{◌≡◌, refl, sym, ap, ◌∙◌, ℕ, true, false, take, get_or, eq-eqb, ne_eqb, Option, Some, None}
 use Rattle.std.proofs.lemmas.List.{take_more}
 use Rattle.pd_reader.specs.Diagrams.{times}
 use Rattle.pd_reader.proofs.Least.{is_unpaired, least_among, least_among-more, least_among-same, lesser}

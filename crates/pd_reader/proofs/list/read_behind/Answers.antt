@@ -1,13 +1,11 @@
-use Rattle.std.proofs.Common.{◌≡◌, ◌+◌, refl, sym, subst, ap, ◌∙◌, append_assoc, append-nil, List, [], ◌∷◌, ◌++◌}
+use Rattle.std.proofs.Common.{◌+◌, sym, subst, ap, ◌∙◌, append_assoc, append-nil, [], ◌∷◌, ◌++◌}
 use Rattle.std.specs.List.{AllByRecursion}
 use Rattle.std.proofs.lemmas.Result.{err_from_is_err_and}
 use Rattle.text_shapes.specs.Shapes.{items_behind}
 use Rattle.text_shapes.specs.Readers.{Found}
-use Rattle.text_shapes.proofs.Places.{IsStop}
 use Rattle.text_shapes.proofs.Marked.{not_there}
 use Rattle.text_shapes.proofs.Chain.{LeadsTo-missed, LeadsTo-found}
 use Rattle.text_shapes.proofs.Lists.{chain_skips, chain_turn, chain_behind_missed, chain_closed, chain_nothing}
-use Rattle.pd_reader.proofs.list.read_behind.Given.{Over}
 use Rattle.pd_reader.proofs.list.read_behind.Goals as goal
 
 pub loop-at-init : goal.loop-at-init

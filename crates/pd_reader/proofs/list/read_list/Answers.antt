@@ -1,8 +1,8 @@
-use Rattle.std.proofs.Common.{◌≡◌, ◌+◌, refl, sym, subst, ap, ◌∙◌, append-nil, codes, List, [], ◌∷◌, ◌++◌}
+use Rattle.std.proofs.Common.{◌≡◌, ◌+◌, refl, sym, subst, ap, ◌∙◌, codes, [], ◌∷◌, ◌++◌}
 use Rattle.std.specs.List.{AllByRecursion}
 use Rattle.std.proofs.lemmas.Result.{err_from_is_err_and}
 use Rattle.text_shapes.specs.Shapes.{items_behind, items_inside, bracketed, listed}
-use Rattle.text_shapes.specs.Readers.{Found, LeadsTo}
+use Rattle.text_shapes.specs.Readers.{Found}
 use Rattle.text_shapes.proofs.Places.{IsStop}
 use Rattle.text_shapes.proofs.Marked.{not_there, letter_not_there, bracket_is_token}
 use Rattle.text_shapes.proofs.Chain.{LeadsTo-missed, LeadsTo-found, token_stands, token_falls}

@@ -1,11 +1,10 @@
-use Rattle.std.proofs.Common.{◌≡◌, refl, sym, ap, subst, ◌∙◌, Err, Ok, List, ℕ, Some, None}
+use Rattle.std.proofs.Common.{◌≡◌, refl, sym, ap, subst, ◌∙◌, Ok, ℕ, Some, None}
 use Rattle.std.specs.List.{AllByRecursion}
 use Rattle.std.proofs.lemmas.Result.{err_from_is_err_and}
 use Rattle.text_shapes.specs.Tokens.{is_space}
 use Rattle.text_shapes.specs.Shapes.{IsText}
-use Rattle.text_shapes.specs.Readers.{Refuses}
 use Rattle.pd_reader.specs.Items.{item_labels}
-use Rattle.pd_reader.specs.Diagrams.{labels, refusal, IsLabel}
+use Rattle.pd_reader.specs.Diagrams.{refusal}
 use Rattle.pd_reader.specs.Texts.{IsTextItem, pd_tokens}
 use Rattle.pd_reader.specs.Answers.{Answers}
 use Rattle.pd_reader.proofs.TextTokens.{pd_are_tokens, pd_labels}

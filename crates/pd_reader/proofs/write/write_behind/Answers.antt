@@ -1,4 +1,4 @@
-use Rattle.std.proofs.Common.{◌≡◌, ◌∙◌, ◌∷◌, [], append_assoc, arith}
+use Rattle.std.proofs.Common.{◌∙◌, ◌∷◌, [], append_assoc, arith}
 use Rattle.std.proofs.lemmas.List.{take_all}
 use Rattle.pd_reader.proofs.Written.{written_behind, written_turn, concat-behind}
 use Rattle.pd_reader.proofs.write.write_behind.Goals as goal

@@ -1,4 +1,4 @@
-use Rattle.std.proofs.Common.{◌≡◌, ◌≤◌, ◌∙◌, ◌∷◌, List, ℕ, length, ap, sym, subst}
+use Rattle.std.proofs.Common.{◌≤◌, ◌∙◌, ◌∷◌, List, ℕ, length, ap, sym, subst}
 use Rattle.pd_reader.specs.declared.item.Item.{Item}
 use Rattle.pd_reader.proofs.Written.{written_first}
 use Rattle.pd_reader.proofs.write.write_pd.Goals as goal

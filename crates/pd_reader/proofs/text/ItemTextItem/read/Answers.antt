@@ -1,4 +1,4 @@
-use Rattle.std.proofs.Common.{◌≡◌, max, codes, decimal, [], ◌∷◌}
+use Rattle.std.proofs.Common.{max, codes, decimal, [], ◌∷◌}
 use Rattle.pd_reader.specs.Texts.{IsOfKind, IsTextItem, item_tokens}
 use Rattle.text_shapes.proofs.Choice.{choice_found, choice_missed, both_missed, all_missed}
 use Rattle.pd_reader.proofs.ItemCalls.{x_word, loop_word, head, numbers, slots_of, item_of, item_calls, makes_x, makes_loop, heads, all_heads}

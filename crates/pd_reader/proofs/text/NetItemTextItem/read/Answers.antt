@@ -1,4 +1,4 @@
-use Rattle.std.proofs.Common.{◌≡◌, max, codes, decimal, [], ◌∷◌}
+use Rattle.std.proofs.Common.{max, codes, decimal, [], ◌∷◌}
 use Rattle.pd_reader.specs.Texts.{IsOfKind, IsTextNetItem, net_item_tokens}
 use Rattle.text_shapes.proofs.Choice.{choice_found, choice_missed, both_missed, all_missed}
 use Rattle.pd_reader.proofs.ItemCalls.{x_word, y_word, loop_word, net_head, net_numbers, net_slots_of, net_item_of, net_item_calls, net_makes_x, net_makes_y, net_makes_loop, net_heads, all_net_heads}
