@@ -119,14 +119,6 @@ fn worked_rows(rt: HostRuntime) -> Result<(), Fail> {
         Some(TextFault::TooMany { limit: 256 })
     );
 
-    // A text of more than 1,048,576 bytes is read to its end.
-    let long = loops(rt.alloc(), 90_000)?;
-    assert_eq!(rt; long.len() > 1_048_576, true);
-    assert_eq!(rt;
-        pd_fault(&rt, &long),
-        Some(TextFault::TooMany { limit: 256 })
-    );
-
     // Nets: the empty one, a theta, a vertex alone, and a head that diagrams alone have.
     assert_eq!(rt; net_fault(&rt, b"Net[]"), None);
     assert_eq!(rt; net_fault(&rt, b"Net[Y[1,2,3],Y[3,2,1]]"), None);
