@@ -1,1 +1,4 @@
 pub mod StatusLemmas
+pub mod ParametersLemmas
+pub mod OutcomeLemmas
+pub mod RunLemmas

@@ -1,2 +1,4 @@
 pub mod Statuses
 pub mod Reports
+pub mod Outcomes
+pub mod Runs

@@ -1,0 +1,46 @@
+-- What bytes come to, from what their reading and the sum of their states come to.
+--
+-- Others cite: text_outcome, crossings_outcome, value_outcome.
+use Rattle.std.proofs.Common.{◌≡◌, ◌≢◌, ◌⊎◌, ◌<◌, ◌≤◌, ◌∙◌, ⊎_elim, inl, inr, ℕ, List, length, nat_lt, Bool, true, false, cond, Ok, Err, refl, sym, ap, arith}
+use Rattle.std.specs.Bool.{Decides}
+use Rattle.std.proofs.lemmas.Bool.Decides.{nat_tests}
+use Rattle.root_quantum.specs.Parameters.{Parameters}
+use Rattle.pd_reader.specs.declared.item.Item.{Item}
+use Rattle.skein_network.specs.Brackets.{bracket}
+use Rattle.wrt_commands.specs.declared.refusal.Refusal.{Refusal}
+use Rattle.wrt_commands.specs.declared.refusal.Refusal.TheVariants.{Crossings, Memory}
+use Rattle.wrt_commands.specs.Reports.{report_of}
+use Rattle.wrt_commands.specs.Outcomes.{Outcome, reads, done, refused, IsReading, IsTextRefusal, IsOutcomeAt, crossing_count, outcome_of}
+
+-- a refused text
+pub text_outcome : (p : Parameters) (bytes : List ℕ) (refusal : Refusal) → length bytes ≤ 1048576 → IsTextRefusal bytes refusal
+    → (refusal ≡ Memory) ⊎ IsOutcomeAt (reads p) bytes (refused refusal)
+text_outcome p bytes refusal short h =
+    ⊎_elim
+    (λ memory. inl memory)
+    (λ reading. inr (inr (short, (Err reading.0, reading.2, ap refused reading.1))))
+    h
+
+-- the test of the number of crossings
+many : (p : Parameters) (items : List Item) → 16 < crossing_count items → refused Crossings ≡ outcome_of p (Ok items)
+many p items h = let test : nat_lt 16 (crossing_count items) ≡ true = grind (arith, nat_tests, h) in rw test refl
+
+few : (p : Parameters) (items : List Item) → crossing_count items ≤ 16 → done (report_of (bracket p items)) ≡ outcome_of p (Ok items)
+few p items h = let test : nat_lt 16 (crossing_count items) ≡ false = grind (arith, nat_tests, h) in rw test refl
+
+-- a diagram of too many crossings
+pub crossings_outcome : (p : Parameters) (bytes : List ℕ) (items : List Item) (refusal : Refusal) → length bytes ≤ 1048576 → IsReading bytes (Ok items)
+    → (refusal ≡ Memory) ⊎ ((refusal ≡ Crossings) × (16 < crossing_count items))
+    → (refusal ≡ Memory) ⊎ IsOutcomeAt (reads p) bytes (refused refusal)
+crossings_outcome p bytes items refusal short reading h =
+    ⊎_elim
+    (λ memory. inl memory)
+    (λ more. inr (inr (short, (Ok items, reading, ap refused more.0 ∙ many p items more.1))))
+    h
+
+-- the bracket of a diagram
+pub value_outcome : (p : Parameters) (bytes : List ℕ) (items : List Item) (value : ℕ) (report : List ℕ) → length bytes ≤ 1048576 → IsReading bytes (Ok items)
+    → (crossing_count items ≤ 16) × (value ≡ bracket p items) → report ≡ report_of value
+    → IsOutcomeAt (reads p) bytes (done report)
+value_outcome p bytes items value report short reading h e =
+    inr (short, (Ok items, reading, ap done (e ∙ ap report_of h.1) ∙ few p items h.0))

@@ -1,0 +1,20 @@
+use Rattle.std.proofs.Common.{◌≡◌, ◌⊎◌, ◌∙◌, ⊎_elim, inl, inr, refl, sym, ap, cond, Ok, Err, arith}
+use Rattle.std.proofs.lemmas.Result.{err_from_is_err_and}
+use Rattle.wrt_commands.specs.declared.refusal.Refusal.TheVariants.{Memory}
+use Rattle.wrt_commands.specs.Outcomes.{reads, refused, IsOutcomeAt}
+use Rattle.wrt_commands.proofs.OutcomeLemmas.{text_outcome, crossings_outcome, value_outcome}
+use Rattle.wrt_commands.proofs.bracket.bracket_report.Goals as goal
+
+pub returns-in_err-diagram : goal.returns-in_err-diagram
+returns-in_err-diagram c =
+    let p = err_from_is_err_and c.from_residual.result c.from_residual.ensures.1 in
+    rw (p.1, p.2) (text_outcome c.args.params.now c.args.bytes.now _ c.requires c.in_err-diagram.ensures)
+
+pub returns-in_err-value : goal.returns-in_err-value
+returns-in_err-value c =
+    let p = err_from_is_err_and c.from_residual-in_err-value.result c.from_residual-in_err-value.ensures.1 in
+    rw (p.1, p.2) (crossings_outcome c.args.params.now c.args.bytes.now c.in_ok-diagram.diagram _ c.requires c.in_ok-diagram.ensures c.in_err-value.ensures)
+
+pub returns-in-Ok : goal.returns-in-Ok
+returns-in-Ok c =
+    value_outcome c.args.params.now c.args.bytes.now c.in_ok-diagram.diagram _ _ c.requires c.in_ok-diagram.ensures c.in_ok-value.ensures c.in-Ok.ensures.ok
