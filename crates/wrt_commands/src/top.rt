@@ -1,6 +1,6 @@
 //! The top call.
 
-ghost use Rattle.std.specs.Prelude.{◌≡◌, ◌≢◌, ◌⊎◌, ℕ, List, [], IfOk, IfSome, OnOk, MatchResult, map, string_bytes};
+ghost use Rattle.std.specs.Prelude.{◌≡◌, ◌≢◌, ◌⊎◌, ℕ, List, [], Some, IfOk, IfSome, OnOk, MatchResult, map, string_bytes};
 ghost use Rattle.skein_io.specs.Faults.{Rose};
 ghost use Rattle.wrt_commands.specs.declared.refusal.Refusal.{Refusal};
 ghost use Rattle.wrt_commands.specs.declared.refusal.Refusal.TheVariants as refusals;
@@ -106,6 +106,12 @@ pub fn run<S: Source, K: Sink, E: Sink>(
     // Where the words are refused, the source isn't read.
     ensures unread { (refusal : Refusal) → opening (map (λ s. s.now) words.now) ≡ ended refusal
         → (S.left source.new ≡ S.left source.old) × (S.faults source.new ≡ S.faults source.old) }
+
+    // Where the source tells its bytes, their outcome is a report and no stream failed, it is written, or memory
+    // was wanting.
+    ensures complete { (bytes report : List ℕ) → S.left source.old ≡ Some bytes → IsOutcome (map (λ s. s.now) words.now) bytes (done report)
+        → ¬ Rose (S.faults source.old) (S.faults source.new) → ¬ Rose (K.faults out.old) (K.faults out.new)
+        → (result ≡ Status.Done) ⊎ (result ≡ Status.Memory) }
 {
     match report(alloc, words, source) {
         Ok(report) => match write_all(out, report.as_bytes()) {
