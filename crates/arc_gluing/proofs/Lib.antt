@@ -11,3 +11,5 @@ pub mod Places
 pub mod Choices
 pub mod OneNode
 pub mod ByParts
+pub mod EachState
+pub mod GluingLaws

@@ -96,8 +96,8 @@ module _ (names ends inner outer : List ℕ) (few : (x : ℕ) → times_in names
     pub label_partners-glue : label_partners (es ++ pair_edges ends term) outer ≡ label_partners short outer
     label_partners-glue = label_partners-is (es ++ pair_edges ends term) outer (label_partners short outer) once_out whole_any
 
-    pub closed-glue : label_closed (es ++ pair_edges ends term) (names ++ ends) outer ≡ label_closed es names inner + label_closed short (inner ++ ends) outer
-    closed-glue = label_closed-pairing names ends inner outer (label_partners es inner) es (pair_edges ends term) choice.inside term_inside has meets left choice.paired
+    pub label_closed-glue2 : label_closed (es ++ pair_edges ends term) (names ++ ends) outer ≡ label_closed es names inner + label_closed short (inner ++ ends) outer
+    label_closed-glue2 = label_closed-pairing names ends inner outer (label_partners es inner) es (pair_edges ends term) choice.inside term_inside has meets left choice.paired
 
     pub next_choice : IsChoice (names ++ ends) outer (es ++ pair_edges ends term)
     next_choice = record {

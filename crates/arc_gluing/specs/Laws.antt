@@ -1,10 +1,10 @@
 -- The laws of gluing, over the definitions alone. A list of nodes with a choice of one term in each pairs its open names,
 -- and what one more node makes of it follows from that pairing.
 --
---     AreFew nodes node                  no name stands more than twice in the nodes and one more node
---     IsGluedTo .. ..                    what a state with one more term is, from the state before
+--     AreFew nodes                                       no name stands more than twice in the nodes
+--     IsGluedTo nodes node inner outer state term        what the state with one more term joins, from what the state joins
 use Rattle.std.specs.Prelude.{◌≡◌, ℕ, ◌+◌, ◌*◌, ◌^◌, ◌≤◌, List, [], ◌∷◌, ◌++◌}
-use Rattle.std.specs.List.{All, Contains}
+use Rattle.std.specs.List.{All}
 use Rattle.graph_parts.specs.Ends.{AreAmong}
 use Rattle.graph_parts.specs.Patterns.{closed_parts}
 use Rattle.state_sums.specs.Networks.{Node, Network, Term, IsNode, names_of, times_in}
@@ -19,9 +19,8 @@ AreFew nodes = (x : ℕ) → times_in (names_of nodes) x ≤ 2
 -- Each state of the nodes pairs their open names: each part has none or two of these.
 abbrev pub PairedStatesLaw : Type 0
 PairedStatesLaw =
-    (nodes : List Node) (open_names : List ℕ) (state : List Term) → All IsNode nodes → AreFew nodes → AreOpen (names_of nodes) open_names →
-    Contains (states nodes) state →
-    IsPairedBy (state_edges nodes state) open_names (partners_of (names_of nodes) (state_edges nodes state) open_names)
+    (nodes : List Node) (open_names : List ℕ) → All IsNode nodes → AreFew nodes → AreOpen (names_of nodes) open_names →
+    All (λ state. IsPairedBy (state_edges nodes state) open_names (partners_of (names_of nodes) (state_edges nodes state) open_names)) (states nodes)
 
 -- At most one pairing is that of the parts.
 abbrev pub OnePairingLaw : Type 0
@@ -42,9 +41,9 @@ pub record IsGluedTo (nodes : List Node) (node : Node) (inner outer : List ℕ) 
 
 abbrev pub GluingLaw : Type 0
 GluingLaw =
-    (nodes : List Node) (node : Node) (inner outer : List ℕ) (state : List Term) (term : Term) → All IsNode nodes → IsNode node →
+    (nodes : List Node) (node : Node) (inner outer : List ℕ) → All IsNode nodes → IsNode node →
     AreFew (nodes ++ node ∷ []) → AreOpen (names_of nodes) inner → AreOpen (names_of (nodes ++ node ∷ [])) outer →
-    Contains (states nodes) state → Contains node.terms term → IsGluedTo nodes node inner outer state term
+    All (λ state. All (λ term. IsGluedTo nodes node inner outer state term) node.terms) (states nodes)
 
 -- The same for the sum over all states, whatever the pairings are worth.
 abbrev pub OneMoreNodeLaw : Type 0

@@ -2,3 +2,7 @@
 //!
 //! The definitions stand in `specs/Pairings.antt` and `specs/Sums.antt`; the laws are functions with empty bodies in `laws.rt`.
 #![tactic(auto)]
+
+mod laws;
+
+pub use laws::{gluing, one_more_node, one_pairing, paired_states, whole_network};
