@@ -39,6 +39,15 @@ pub EndsAre-pair_edges : (names partner : List ℕ) → IsPairing partner → le
 EndsAre-pair_edges names partner h e =
     EndsAre-term record { group = 0; ends = names; terms = [] } record { weight = 0; partner = partner } (all_below (length names) partner (λ i l. let k = h.within i l in omega (arith, k, e)))
 
+pub EndsAre-both : (names ends old term : List ℕ) → IsPairing old → IsPairing term → length old ≡ length names → length term ≡ length ends →
+    EndsAre (is_member ◌==◌ (names ++ ends)) (pair_edges names old ++ pair_edges ends term)
+EndsAre-both names ends old term po pt lo lt =
+    EndsAre-append (is_member ◌==◌ (names ++ ends)) (pair_edges names old) (pair_edges ends term)
+    (EndsAre-weaker (is_member ◌==◌ names) (is_member ◌==◌ (names ++ ends)) (λ x m. is_member-append names ends x ∙ or_left (is_member ◌==◌ names x) (is_member ◌==◌ ends x) m)
+    (pair_edges names old) (EndsAre-pair_edges names old po lo))
+    (EndsAre-weaker (is_member ◌==◌ ends) (is_member ◌==◌ (names ++ ends)) (λ x m. is_member-append names ends x ∙ or_right (is_member ◌==◌ names x) (is_member ◌==◌ ends x) m)
+    (pair_edges ends term) (EndsAre-pair_edges ends term pt lt))
+
 all_pass : (xs : List ℕ) → AllPass (λ x. true) xs
 all_pass [] = All-nil (λ x. true ≡ true)
 all_pass (x ∷ xs) = All-cons (λ x. true ≡ true) x xs refl (all_pass xs)

@@ -51,7 +51,7 @@ each_state (node ∷ nodes) Q a =
     (All-weaker (IsState nodes (λ es. Q (term_edges node term ++ es))) (λ rest. IsState (node ∷ nodes) Q (term ∷ rest)) (λ rest s. (s.0, ap suc s.1)) (states nodes)
     (each_state nodes (λ es. Q (term_edges node term ++ es)) b))) node.terms a)
 
-open_among : (names open_names : List ℕ) → AreOpen names open_names → AllPass (is_member ◌==◌ names) open_names
+pub open_among : (names open_names : List ℕ) → AreOpen names open_names → AllPass (is_member ◌==◌ names) open_names
 open_among names open_names h =
     all_pass_at (is_member ◌==◌ names) open_names (λ i l. let x = slice_index open_names i in
     let t = times_of_member x open_names (is_member-get_or open_names i l) in let c = h.once x in member_of_times x names (grind (arith, nat_tests, t, c)))

@@ -13,3 +13,5 @@ pub mod OneNode
 pub mod ByParts
 pub mod EachState
 pub mod GluingLaws
+pub mod Slots
+pub mod Seamed
