@@ -9,8 +9,10 @@ mod names;
 mod network;
 mod node;
 mod pairing;
+mod seam;
 
 pub use fault::{NetworkFault, NodeFault, PairingFault};
 pub use network::Network;
 pub use node::{Node, Term};
 pub use pairing::Pairing;
+pub use seam::{Seam, TooWide};
