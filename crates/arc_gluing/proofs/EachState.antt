@@ -1,6 +1,6 @@
 -- Each state of some nodes pairs their open names: node by node, since a node keeps it.
 --
--- Others cite: AreFew-front, inner_of, left_between, each_choice, AllChoices-state, state_choice, names_of-more, state_edges-more.
+-- Others cite: names_of-more, AreFew-front, AreOpen-singles, few_between, left_between, each_choice.
 use Rattle.std.proofs.Common.{◌≡◌, ℕ, zero, suc, ◌+◌, ◌≤◌, ◌<◌, Bool, true, false, cond, ◌==◌, ⊎_elim, List, [], ◌∷◌, ◌++◌, map, length, slice_index, get_or, refl, sym, ap, subst, ◌∙◌, arith, append-nil, append_assoc}
 use Rattle.std.specs.List.{All, AllPass, Contains, filter, flat_map}
 use Rattle.std.specs.Set.{is_member}
@@ -44,11 +44,10 @@ times_in-filter test (y ∷ xs) x =
     (λ t. ap {B = ℕ} (λ c. times_in (cond c (y ∷ filter test xs) (filter test xs)) x) t ∙ (let f : x ≡ y → test x ≡ false = λ e. ap test e ∙ t in grind (arith, nat_tests, ih, a, b, f)))
     (cases_Bool (test y))
 
-pub singles : List ℕ → List ℕ
+abbrev pub singles : List ℕ → List ℕ
 singles names = filter (λ x. times_in names x == 1) names
 
 pub AreOpen-singles : (names : List ℕ) → AreOpen names (singles names)
-unfolding singles
 AreOpen-singles names = record { once = λ x. let f = times_in-filter (λ y. times_in names y == 1) names x in grind (arith, nat_tests, f) }
 
 -- ---- from the names that are open before a node to those that are open after it

@@ -5,6 +5,7 @@
 #![tactic(auto)]
 
 mod fault;
+mod gluing;
 mod names;
 mod network;
 mod node;
@@ -12,6 +13,7 @@ mod pairing;
 mod seam;
 
 pub use fault::{NetworkFault, NodeFault, PairingFault};
+pub use gluing::{Glued, Turns, glue};
 pub use network::Network;
 pub use node::{Node, Term};
 pub use pairing::Pairing;

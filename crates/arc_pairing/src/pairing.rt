@@ -15,7 +15,7 @@ use std::marker::Model;
 /// order: 1,0,3,2 is less than 2,3,0,1, and 1,0 is less than both.
 #[derive(Drop, PartialEq, Eq, PartialOrd, Ord)]
 pub struct Pairing {
-    partners: ArrayVec<u8, 24>,
+    pub(crate) partners: ArrayVec<u8, 24>,
 }
 
 impl Model for Pairing {

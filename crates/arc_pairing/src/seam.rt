@@ -1,8 +1,8 @@
 //! Seams: where the points of a pairing and the ends of a node glued to it go.
 
-ghost use Rattle.std.specs.Prelude.{◌≡◌, ◌<◌, ◌≤◌, ◌==◌, ◌++◌, ◌↔◌, ℕ, length, map, slice_index, IfOk, IsPermutation};
+ghost use Rattle.std.specs.Prelude.{◌≡◌, ◌<◌, ◌≤◌, ◌==◌, ◌++◌, ◌↔◌, ℕ, length, map, slice_index, IfOk};
 ghost use Rattle.std.specs.List.{filter};
-ghost use Rattle.std.specs.List.Sorted.{IsNonDecreasing, IsStrictlyIncreasing};
+ghost use Rattle.std.specs.List.Sorted.{IsStrictlyIncreasing};
 ghost use Rattle.state_sums.specs.Networks.{times_in};
 ghost use Rattle.arc_gluing.specs.Pairings.{AreOpen};
 ghost use Rattle.arc_gluing.specs.Seams.{place_in};
@@ -27,9 +27,9 @@ pub struct Seam {
     inner: ArrayVec<u32, 24>,
     ends: ArrayVec<u32, 24>,
     outer: ArrayVec<u32, 24>,
-    end_slots: ArrayVec<u8, 24>,
-    outer_slots: ArrayVec<u8, 24>,
-    places: [u8; 48],
+    pub(crate) end_slots: ArrayVec<u8, 24>,
+    pub(crate) outer_slots: ArrayVec<u8, 24>,
+    pub(crate) places: [u8; 48],
 }
 
 impl Model for Seam {
@@ -92,6 +92,18 @@ fn single_names(all: &[u32]) -> ArrayVec<u32, 48>
     single
 }
 
+/// The names that stand once, increasing, of at most 48.
+fn names_once(all: &[u32]) -> ArrayVec<u32, 48>
+    requires { length all.now ≤ 48 }
+    ensures left { AreOpen all.now result.items }
+    ensures ascending { IsStrictlyIncreasing result.items }
+    ensures count { length result.items ≡ single_count all.now }
+{
+    let mut single = single_names(all);
+    single.sort_unstable();
+    single
+}
+
 /// The slot of a name, the first place at which it stands.
 fn slot_of(all: &[u32], name: u32) -> usize
     ensures slot { result ≡ place_in all.now name }
@@ -150,13 +162,12 @@ impl Seam {
         ensures wide { (count : ℕ) → (result ≡ Err (record { ends = count })) ↔ (24 < single_count (names.now ++ ends.now)) × (count ≡ single_count (names.now ++ ends.now)) }
     {
         let all = joined(names, ends);
-        let mut single = single_names(all.as_slice());
+        let single = names_once(all.as_slice());
         if single.len() > 24 {
             return Err(TooWide {
                 ends: single.len() as u32,
             });
         }
-        single.sort_unstable();
         let end_slots = slots_of(all.as_slice(), ends);
         let outer_slots = slots_of(all.as_slice(), single.as_slice());
         let places = places_of(outer_slots.as_slice());
