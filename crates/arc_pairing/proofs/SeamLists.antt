@@ -104,4 +104,4 @@ made_seam names ends found inner last outer end_slots left_slots places few_name
 pub refill_whole : (xs ys : List ℕ) → length ys ≡ length xs → refill (length xs) xs ys ≡ ys
 refill_whole xs ys e =
     let fits : length xs ≤ length ys = omega (arith, e) in
-    take-append-le ys (drop (length ys) xs) (length xs) fits ∙ take_all (length xs) ys (omega (arith, e))
+    take-append-le (length xs) ys (drop (length ys) xs) fits ∙ take_all (length xs) ys (omega (arith, e))
