@@ -11,6 +11,8 @@ mod network;
 mod node;
 mod pairing;
 mod seam;
+#[cfg(test)]
+mod tests;
 
 pub use fault::{NetworkFault, NodeFault, PairingFault};
 pub use gluing::{Glued, Turns, glue};
