@@ -1,3 +1,4 @@
 pub mod Pairings
+pub mod Gluing
 pub mod Counts
 pub mod Nodes

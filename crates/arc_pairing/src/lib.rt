@@ -5,12 +5,18 @@
 #![tactic(auto)]
 
 mod fault;
+mod gluing;
 mod names;
 mod network;
 mod node;
 mod pairing;
+mod seam;
+#[cfg(test)]
+mod tests;
 
 pub use fault::{NetworkFault, NodeFault, PairingFault};
+pub use gluing::{Glued, Turns, glue};
 pub use network::Network;
 pub use node::{Node, Term};
 pub use pairing::Pairing;
+pub use seam::{Seam, TooWide};
