@@ -1,8 +1,7 @@
 -- What bytes come to, from what their reading and the sum of their states come to.
 --
 -- Others cite: text_outcome, crossings_outcome, value_outcome.
-use Rattle.std.proofs.Common.{◌≡◌, ◌≢◌, ◌⊎◌, ◌<◌, ◌≤◌, ◌∙◌, ⊎_elim, inl, inr, ℕ, List, length, nat_lt, Bool, true, false, cond, Ok, Err, refl, sym, ap, arith}
-use Rattle.std.specs.Bool.{Decides}
+use Rattle.std.proofs.Common.{◌≡◌, ◌⊎◌, ◌<◌, ◌≤◌, ◌∙◌, ⊎_elim, inl, inr, ℕ, List, length, nat_lt, true, false, Ok, Err, refl, ap, arith}
 use Rattle.std.proofs.lemmas.Bool.Decides.{nat_tests}
 use Rattle.root_quantum.specs.Parameters.{Parameters}
 use Rattle.pd_reader.specs.declared.item.Item.{Item}
@@ -10,7 +9,7 @@ use Rattle.skein_network.specs.Brackets.{bracket}
 use Rattle.wrt_commands.specs.declared.refusal.Refusal.{Refusal}
 use Rattle.wrt_commands.specs.declared.refusal.Refusal.TheVariants.{Crossings, Memory}
 use Rattle.wrt_commands.specs.Reports.{report_of}
-use Rattle.wrt_commands.specs.Outcomes.{Outcome, reads, done, refused, IsReading, IsTextRefusal, IsOutcomeAt, crossing_count, outcome_of}
+use Rattle.wrt_commands.specs.Outcomes.{reads, done, refused, IsReading, IsTextRefusal, IsOutcomeAt, crossing_count, outcome_of}
 
 -- a refused text
 pub text_outcome : (p : Parameters) (bytes : List ℕ) (refusal : Refusal) → length bytes ≤ 1048576 → IsTextRefusal bytes refusal

@@ -1,13 +1,12 @@
 -- What the numbers of a command come to, from what the making of parameters says.
 --
 -- Others cite: level_law, made_law, refused_parameters.
-use Rattle.std.proofs.Common.{◌≡◌, ◌<◌, ◌^◌, ◌-◌, ◌*◌, ◌∙◌, ℕ, min, Option, Some, None, Result, Ok, Err, refl, sym, ap, arith}
+use Rattle.std.proofs.Common.{◌≡◌, ◌<◌, ◌^◌, ◌-◌, ◌∙◌, ℕ, min, Option, Some, None, Result, Ok, Err, refl, ap, arith}
 use Rattle.std.specs.Result.{OkIff, result_unwrap_or}
 use Rattle.root_quantum.specs.Parameters.{Parameters, IsParameters, IsParameters-prop}
 use Rattle.root_quantum.specs.Refusals.{IsRefused, refusal}
 use Rattle.root_quantum.proofs.RefusalProofs.{accepted_law, refused_law}
 use Rattle.root_quantum.specs.declared.fault.ParamFault.{ParamFault}
-use Rattle.root_quantum.specs.declared.fault.ParamFault.TheVariants as against
 use Rattle.wrt_request.specs.declared.request.Numbers.{Numbers}
 use Rattle.wrt_commands.specs.declared.parameters.ParametersFault.{ParametersFault}
 use Rattle.wrt_commands.specs.Outcomes.{level_of, against_parameters, judged, parameters_of}

@@ -1,7 +1,7 @@
 -- How a run without a report ends, from why there is none.
 --
 -- Others cite: some_bytes, ended_refused, input_refused, at_refused, part_law, says_law, runs_refused.
-use Rattle.std.proofs.Common.{◌≡◌, ◌≢◌, ◌⊎◌, ◌<◌, ◌∙◌, ⊎_elim, inl, inr, ℕ, List, [], length, nat_lt, Bool, true, false, cond, Option, Some, None, Result, Ok, Err, refl, sym, ap, subst}
+use Rattle.std.proofs.Common.{◌≡◌, ◌≢◌, ◌⊎◌, ◌<◌, ◌∙◌, ⊎_elim, inl, inr, ℕ, List, [], length, nat_lt, Bool, true, false, cond, Option, Some, None, Result, Ok, Err, refl, ap}
 use Rattle.std.specs.Prelude.{OnOk, take}
 use Rattle.skein_io.specs.Faults.{Rose}
 use Rattle.skein_io.specs.Sink.{Appends}
@@ -19,9 +19,8 @@ use Rattle.wrt_request.specs.Requests.{request_of}
 use Rattle.wrt_commands.specs.declared.parameters.ParametersFault.{ParametersFault}
 use Rattle.wrt_commands.specs.declared.refusal.Refusal.{Refusal}
 use Rattle.wrt_commands.specs.declared.refusal.Refusal.TheVariants.{Words, Parameters as ParametersRefused, ReadFault, TooLong, Text, Crossings, WriteFault, Memory}
-use Rattle.wrt_commands.specs.declared.status.Status.TheVariants as statuses
 use Rattle.wrt_commands.specs.Reports.{report_of, status_of, fault_line}
-use Rattle.wrt_commands.specs.Outcomes.{Opening, ended, reads, Outcome, done, refused, opening, with_request, with_parameters, parameters_of, crossing_count, outcome_of, IsReading, IsOutcome, IsOutcomeAt}
+use Rattle.wrt_commands.specs.Outcomes.{ended, reads, done, refused, opening, with_request, with_parameters, parameters_of, crossing_count, outcome_of, IsOutcomeAt}
 use Rattle.wrt_commands.specs.Runs.{Written, IsUntouched, IsPart, Says, IsTold, IsInputRefusal, IsRefusedAs, RunsTo}
 
 -- a source that doesn't tell is told any bytes

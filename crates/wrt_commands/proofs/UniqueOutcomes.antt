@@ -1,10 +1,8 @@
 -- Words and bytes come to at most one outcome.
 --
 -- Others cite: outcomes_are_unique_law, completes.
-use Rattle.std.proofs.Common.{◌≡◌, ◌≢◌, ◌⊎◌, ◌<◌, ◌≤◌, ◌∙◌, ⊎_elim, inl, inr, ℕ, List, length, slice_index, Bool, true, false, Option, Some, None, Result, Ok, Err, refl, sym, ap, subst, arith}
+use Rattle.std.proofs.Common.{◌≡◌, ◌≢◌, ◌⊎◌, ◌<◌, ◌∙◌, inl, inr, ℕ, List, length, slice_index, true, Some, Result, Ok, Err, refl, sym, ap, subst, arith}
 use Rattle.std.proofs.lemmas.Bool.Decides.{nat_tests}
-use Rattle.skein_io.specs.Faults.{Rose}
-use Rattle.text_shapes.specs.Shapes.{IsLongestBeginning}
 use Rattle.text_shapes.specs.Reach.{is_digit, is_letter}
 use Rattle.pd_reader.specs.declared.item.Item.{Item}
 use Rattle.pd_reader.specs.declared.fault.DiagramFault.{DiagramFault}
@@ -13,14 +11,11 @@ use Rattle.pd_reader.specs.declared.fault.TextFault.{TextFault}
 use Rattle.pd_reader.specs.declared.fault.TextFault.TheVariants as texts
 use Rattle.pd_reader.specs.Items.{item_labels}
 use Rattle.pd_reader.specs.Diagrams as diagrams
-use Rattle.pd_reader.specs.Texts.{IsTextItem, pd_tokens, IsPdText}
+use Rattle.pd_reader.specs.Texts.{IsTextItem, pd_tokens}
 use Rattle.pd_reader.specs.Answers.{IsPdRefusal, StopsAtPlace, IsRefusedText}
 use Rattle.pd_reader.specs.Faults.{NamesByte, place_of, of_items}
 use Rattle.pd_reader.proofs.UniqueItems.{texts_are_unique_lem}
-use Rattle.root_quantum.specs.Parameters.{Parameters}
-use Rattle.wrt_commands.specs.declared.refusal.Refusal.{Refusal}
-use Rattle.wrt_commands.specs.declared.refusal.Refusal.TheVariants.{TooLong}
-use Rattle.wrt_commands.specs.Outcomes.{Opening, ended, reads, Outcome, done, refused, opening, outcome_of, IsReading, IsOutcome, IsOutcomeAt}
+use Rattle.wrt_commands.specs.Outcomes.{Opening, ended, reads, Outcome, opening, outcome_of, IsReading, IsOutcomeAt}
 use Rattle.wrt_commands.specs.Laws.{OutcomesAreUnique}
 
 abbrev Stops : List ℕ → ℕ → Type 0

@@ -27,11 +27,7 @@ fn crossings(items: &[Item]) -> usize
 }
 
 /// The bracket of the diagram, of at most 16 crossings: all components have colour 1.
-fn bracket_value(
-    alloc: Global,
-    params: &Params,
-    diagram: &Diagram,
-) -> Result<u64, Refusal>
+fn bracket_value(alloc: Global, params: &Params, diagram: &Diagram) -> Result<u64, Refusal>
     ensures { MatchResult result (λ value. (crossing_count diagram.now ≤ 16) × (value ≡ bracket params.now diagram.now))
         (λ refusal. (refusal ≡ refusals.Memory) ⊎ ((refusal ≡ refusals.Crossings) × (16 < crossing_count diagram.now))) }
 {

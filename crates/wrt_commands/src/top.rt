@@ -62,11 +62,10 @@ fn say<E: Sink>(err: &mut E, line: &[u8])
 /// Writes the fault line of the refusal, and gives the status with which the run ends: that of the
 /// refusal, or want of memory where there is none for the line.
 fn refuse<E: Sink>(alloc: Global, err: &mut E, refusal: &Refusal) -> Status
-    ensures {
-        ((result ≡ status_of refusal.now)
-            × Says (written (E.taken err.old) (E.taken err.new) (E.faults err.old) (E.faults err.new)) (fault_line refusal.now))
+    ensures { ((result ≡ status_of refusal.now)
+        × Says (written (E.taken err.old) (E.taken err.new) (E.faults err.old) (E.faults err.new)) (fault_line refusal.now))
         ⊎ ((result ≡ Status.Memory)
-            × Says (written (E.taken err.old) (E.taken err.new) (E.faults err.old) (E.faults err.new)) (fault_line refusals.Memory)) }
+        × Says (written (E.taken err.old) (E.taken err.new) (E.faults err.old) (E.faults err.new)) (fault_line refusals.Memory)) }
 {
     match fault_line(alloc, refusal) {
         Ok(line) => {
@@ -93,8 +92,8 @@ pub fn run<S: Source, K: Sink, E: Sink>(
     // the source tells, or of some bytes where it tells none.
     ensures outcome { (bytes : List ℕ) × IsTold (S.left source.old) bytes
         × RunsTo (map (λ s. s.now) words.now) bytes result
-            (written (K.taken out.old) (K.taken out.new) (K.faults out.old) (K.faults out.new))
-            (written (E.taken err.old) (E.taken err.new) (E.faults err.old) (E.faults err.new)) }
+        (written (K.taken out.old) (K.taken out.new) (K.faults out.old) (K.faults out.new))
+        (written (E.taken err.old) (E.taken err.new) (E.faults err.old) (E.faults err.new)) }
 
     // At `Done` the source was read to its end.
     ensures end { result ≡ Status.Done → IfSome (S.left source.new) (λ left. left ≡ []) }

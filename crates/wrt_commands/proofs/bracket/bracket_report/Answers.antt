@@ -1,7 +1,4 @@
-use Rattle.std.proofs.Common.{◌≡◌, ◌⊎◌, ◌∙◌, ⊎_elim, inl, inr, refl, sym, ap, cond, Ok, Err, arith}
 use Rattle.std.proofs.lemmas.Result.{err_from_is_err_and}
-use Rattle.wrt_commands.specs.declared.refusal.Refusal.TheVariants.{Memory}
-use Rattle.wrt_commands.specs.Outcomes.{reads, refused, IsOutcomeAt}
 use Rattle.wrt_commands.proofs.OutcomeLemmas.{text_outcome, crossings_outcome, value_outcome}
 use Rattle.wrt_commands.proofs.bracket.bracket_report.Goals as goal
 

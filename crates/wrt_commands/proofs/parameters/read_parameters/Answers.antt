@@ -1,5 +1,4 @@
-use Rattle.std.proofs.Common.{◌≡◌, ◌∙◌, ◌*◌, ℕ, min, refl, sym, ap, Err, arith}
-use Rattle.std.specs.Prelude.{◌↔◌}
+use Rattle.std.proofs.Common.{◌≡◌, ◌∙◌, ◌*◌, min, sym, ap, Err, arith}
 use Rattle.root_quantum.specs.Refusals.{IsRefused}
 use Rattle.root_quantum.specs.declared.fault.ParamFault.TheVariants as against
 use Rattle.wrt_commands.specs.declared.parameters.ParametersFault.TheVariants.{Order}

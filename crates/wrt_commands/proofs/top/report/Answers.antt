@@ -1,6 +1,5 @@
-use Rattle.std.proofs.Common.{inl, inr}
 use Rattle.std.proofs.lemmas.Result.{err_from_is_err_and}
-use Rattle.wrt_commands.proofs.RunLemmas.{some_bytes, ended_refused, input_refused, at_refused}
+use Rattle.wrt_commands.proofs.RunLemmas.{some_bytes, ended_refused, input_refused}
 use Rattle.wrt_commands.proofs.top.report.Goals as goal
 
 pub returns-in_err-params-clause-answer : goal.returns-in_err-params-clause-answer

@@ -24,8 +24,8 @@ pub returns-clause-complete : goal.returns-clause-complete
 returns-clause-complete g c = λ bytes report tells outcome read write.
     let h = returns-clause-outcome g c in
     let rose = λ (e : c.refuse.result ≡ ReadFault).
-        ⊎_elim
-        (λ r. c.report.ensures.read_fault (c.in-Err.is ∙ ap Err (status-read_fault c.in-Err.refusal (sym r.0 ∙ e))))
-        (λ r. let memory = r.0 in absurd (cc))
-        c.refuse.ensures in
+    ⊎_elim
+    (λ r. c.report.ensures.read_fault (c.in-Err.is ∙ ap Err (status-read_fault c.in-Err.refusal (sym r.0 ∙ e))))
+    (λ r. let memory = r.0 in absurd (cc))
+    c.refuse.ensures in
     completes _ _ bytes h.0 report c.refuse.result _ _ tells h.1 outcome h.2 (λ e. read (rose e)) write
