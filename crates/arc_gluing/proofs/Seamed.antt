@@ -35,7 +35,7 @@ use Rattle.arc_gluing.proofs.SlotNames.{IsPairedLabels-named, label_closed-named
 use Rattle.arc_gluing.proofs.Slots.{slots_are, slots_left, left_long, left_named, range_named}
 
 -- each number of a range stands there once
-range_times : (a n x : ℕ) → (times_in (range_with_len a n) x ≤ 1) × (x < a → times_in (range_with_len a n) x ≡ 0)
+pub range_times : (a n x : ℕ) → (times_in (range_with_len a n) x ≤ 1) × (x < a → times_in (range_with_len a n) x ≡ 0)
 range_times a zero x = (omega arith, λ l. refl)
 range_times a (suc n) x =
     let ih = range_times (a + 1) n x in

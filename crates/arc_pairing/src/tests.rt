@@ -1,5 +1,7 @@
 //! Worked rows, and gluing against a walk along the arcs.
 
+ghost use Rattle.std.specs.Prelude.{◌≡◌, length, IfSome};
+
 use super::*;
 use std::cmp::Ordering;
 use std::test::Fail;
@@ -137,11 +139,16 @@ fn walked_loops(old: &Pairing, term: &Pairing, open: usize) -> Option<u32> {
 }
 
 /// The seam of so many points and as many ends, of which the first are glued and the last `open` are left.
-fn seam(points: usize, open: usize) -> Option<Seam> {
+fn seam(points: usize, open: usize) -> Option<Seam>
+    ensures { IfSome result (λ seam. (length seam.inner ≡ points) × (length seam.ends ≡ points)) }
+{
     if points > 8 || open > points {
         return None;
     }
-    Seam::of(&NAMES[..points], &NAMES[open..open + points]).ok()
+    match Seam::of(&NAMES[..points], &NAMES[open..][..points]) {
+        Ok(seam) => Some(seam),
+        Err(_) => None,
+    }
 }
 
 /// Whether `glue` gives what the walks give, for all pairings of so many points and ends.
@@ -157,7 +164,10 @@ fn agrees_with_walks(points: usize, turns: &mut Turns) -> Option<bool> {
             };
             for open in 0..=points {
                 let seam = seam(points, open)?;
-                if turns.count() > 1 << 40 {
+                if turns.count() > 1 << 40
+                    || usize::from(old.len()) != points
+                    || usize::from(term.len()) != points
+                {
                     return None;
                 }
                 let glued = glue(&old, &term, &seam, turns);
@@ -173,8 +183,14 @@ fn agrees_with_walks(points: usize, turns: &mut Turns) -> Option<bool> {
 
 #[test]
 fn worked_rows(rt: HostRuntime) -> Result<(), Fail> {
-    assert_eq!(rt; Pairing::new(&[1, 0, 3]).err(), Some(PairingFault::NotPairing { at: 2 }));
-    assert_eq!(rt; Pairing::new(&[0; 25]).err(), Some(PairingFault::Long { given: 25 }));
+    assert_eq!(rt;
+        Pairing::new(&[1, 0, 3]).err(),
+        Some(PairingFault::NotPairing { at: 2 })
+    );
+    assert_eq!(rt;
+        Pairing::new(&[0; 25]).err(),
+        Some(PairingFault::Long { given: 25 })
+    );
 
     let hook = Pairing::new(&[1, 0, 3, 2])?;
     let strands = Pairing::new(&[3, 2, 1, 0])?;
@@ -190,6 +206,18 @@ fn worked_rows(rt: HostRuntime) -> Result<(), Fail> {
         assert_eq!(rt; pairing.is_noncrossing(), noncrossing);
         assert_eq!(rt; pairing.copy().partners(), pairing.partners());
         assert_eq!(rt; usize::from(pairing.len()), mirror.len());
+    }
+    // 1 + 32 (0 + 32 (3 + 32 2)) + 4 * 2^120, and numbers that are no code
+    assert_eq!(rt; hook.code(), 68_609 + (4 << 120));
+    assert_eq!(rt; Pairing::from_code(68_609 + (4 << 120)), Some(hook.copy()));
+    for code in [
+        68_610 + (4 << 120),
+        68_609 + (5 << 120),
+        68_609 + (1 << 119) + (4 << 120),
+        25 << 120,
+        u128::MAX,
+    ] {
+        assert_eq!(rt; Pairing::from_code(code), None);
     }
     assert_eq!(rt; hook.cmp(&crossed), Ordering::Less);
     assert_eq!(rt; strands.cmp(&crossed), Ordering::Greater);
@@ -222,7 +250,11 @@ fn worked_rows(rt: HostRuntime) -> Result<(), Fail> {
 
     // every pairing of up to 8 points, at every number of open points
     for points in 0..=8 {
-        assert_eq!(rt; agrees_with_walks(points, &mut turns), Some(true), "{points} points");
+        assert_eq!(rt;
+            agrees_with_walks(points, &mut turns),
+            Some(true),
+            "{points} points"
+        );
     }
     let mut all = Turns::new();
     assert!(rt; turns.count() < 1 << 40);
@@ -235,7 +267,10 @@ fn worked_rows(rt: HostRuntime) -> Result<(), Fail> {
 #[test]
 fn nodes_and_networks(rt: HostRuntime) -> Result<(), Fail> {
     let arc = Pairing::new(&[1, 0])?;
-    let terms = [Term { weight: 1, pairing: arc }];
+    let terms = [Term {
+        weight: 1,
+        pairing: arc,
+    }];
     let long = Node::new(rt.alloc(), 0, &[1; 25], &terms);
     assert_eq!(rt; long.err(), Some(NodeFault::Long { given: 25 }));
     let misfit = Node::new(rt.alloc(), 0, &[1, 2, 3], &terms);
