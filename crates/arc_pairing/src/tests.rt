@@ -9,11 +9,6 @@ use std::test::Fail;
 /// The names of a gluing: those of the points from 1 on, and those of the ends from 1 past the open points on.
 const NAMES: [u32; 16] = [1, 2, 3, 4, 5, 6, 7, 8, 9, 10, 11, 12, 13, 14, 15, 16];
 
-/// More names than a pairing has room for.
-const MANY: [u32; 25] = [
-    1, 2, 3, 4, 5, 6, 7, 8, 9, 10, 11, 12, 13, 14, 15, 16, 17, 18, 19, 20, 21, 22, 23, 24, 25,
-];
-
 /// The pairing of so many points, at most 8, with this number: each first free point in turn gets a
 /// free partner. None past the last.
 fn numbered(points: usize, number: usize) -> Option<Pairing> {
@@ -229,8 +224,6 @@ fn worked_rows(rt: HostRuntime) -> Result<(), Fail> {
     assert_eq!(rt; seam.names(), [7].as_slice());
     let seam = Seam::of(&[2, 4, 9], &[9, 1, 4, 7])?;
     assert_eq!(rt; seam.names(), [1, 2, 7].as_slice());
-    let wide = Seam::of(&MANY[..24], &MANY[24..]);
-    assert_eq!(rt; wide.err(), Some(TooWide { ends: 25 }));
 
     // a crossing with a curl closes two loops in one smoothing and one in the other
     let mut turns = Turns::new();

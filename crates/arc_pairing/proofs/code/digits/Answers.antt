@@ -1,5 +1,4 @@
-use Rattle.std.proofs.Common.{◌≡◌, ℕ, ◌+◌, ◌-◌, ◌*◌, ◌<◌, ◌≤◌, ◌^◌, drop, length, sym, ap, ◌∙◌, arith}
-use Rattle.arc_pairing.specs.Codes.{digits_of}
+use Rattle.std.proofs.Common.{◌-◌, ◌<◌, length, arith}
 use Rattle.arc_pairing.proofs.CodeDigits.{digits_rest}
 use Rattle.arc_pairing.proofs.code.digits.Goals as goal
 

@@ -1,4 +1,4 @@
-use Rattle.std.proofs.Common.{◌≡◌, ℕ, ◌<◌, ◌≤◌, ◌/◌, ◌%◌, take, length, subst, sym, ap, ◌∙◌, refl, arith}
+use Rattle.std.proofs.Common.{◌≡◌, ℕ, ◌/◌, ◌%◌, take, subst, ◌∙◌, refl, arith}
 use Rattle.std.proofs.Math.ListN.{length-set}
 use Rattle.arc_pairing.proofs.CodeDigits.{code_parts, decoded, digits_then, digits_then_more, whole_code}
 use Rattle.arc_pairing.proofs.pairing.Pairing.from_code.Goals as goal

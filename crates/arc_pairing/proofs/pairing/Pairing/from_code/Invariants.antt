@@ -1,4 +1,4 @@
-use Rattle.std.proofs.Common.{◌≡◌, ℕ, ◌<◌, ◌%◌, List, drop, take, length, slice_index}
+use Rattle.std.proofs.Common.{◌≡◌, ℕ, ◌%◌, List, drop, take, length}
 use Rattle.arc_pairing.specs.Codes.{code_of, digits_of}
 use Rattle.arc_pairing.specs.Pairings.{IsShortPairing}
 use Rattle.arc_pairing.proofs.CodeDigits.{digits_then}
