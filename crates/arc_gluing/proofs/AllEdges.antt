@@ -1,7 +1,9 @@
--- All edges of a gluing.
-use Rattle.std.proofs.Common.{◌≡◌, ◌≢◌, ℕ, ◌+◌, ◌≤◌, Bool, true, false, cond, ◌||◌, ◌==◌, ◌⊎◌, ⊎_elim, List, [], ◌∷◌, ◌++◌, map, refl, sym, ap, subst, ◌∙◌, arith}
-use Rattle.std.specs.Set.{is_member, distinct_count}
-use Rattle.std.proofs.lemmas.Bool.{eq-eqb, eqb-true, cases_Bool, or_left, or_right}
+-- All edges, one by one: the mates know the ends of all paths, and the loops that closed are the labels that were lost.
+--
+-- Others cite: times_of_member, member_of_times, times_in-pair, IsMated-after, loops_after-count.
+use Rattle.std.proofs.Common.{◌≡◌, ◌≢◌, ℕ, ◌+◌, ◌≤◌, Bool, true, false, cond, ◌==◌, List, [], ◌∷◌, ◌++◌, map, refl, sym, ap, ◌∙◌, arith}
+use Rattle.std.specs.Set.{is_member}
+use Rattle.std.proofs.lemmas.Bool.{eq-eqb, or_left, or_right}
 use Rattle.std.proofs.lemmas.Bool.Decides.{nat_tests}
 use Rattle.std.proofs.lemmas.List.Sums.{sum_by-cons}
 use Rattle.arc_gluing.proofs.OneEdge as step
@@ -9,7 +11,7 @@ use Rattle.graph_parts.proofs.Counting.{label_count-relabel, label_count-joined,
 use Rattle.graph_parts.specs.Ends.{EndsAre}
 use Rattle.graph_parts.specs.Labels.{relabel, label_after, label_count}
 use Rattle.state_sums.specs.Networks.{times_in}
-use Rattle.arc_gluing.specs.Mates.{put, joined_mates, closes, mates_after, loops_after, ends_of, IsMated}
+use Rattle.arc_gluing.specs.Mates.{joined_mates, closes, mates_after, loops_after, ends_of, IsMated}
 
 pub times_of_member : (x : ℕ) (xs : List ℕ) → is_member ◌==◌ xs x ≡ true → 1 ≤ times_in xs x
 times_of_member x [] m = absurd (grind (arith, m))

@@ -1,7 +1,7 @@
 -- Pairings by labels are pairings by walks and by parts.
 --
 -- Others cite: IsPairedBy-from_labels, IsPairedLabels-from_walks, partners_of-labels.
-use Rattle.std.proofs.Common.{◌≡◌, ℕ, ◌<◌, Bool, true, not, ◌&&◌, ◌==◌, List, map, refl, sym, ap, ◌∙◌, arith}
+use Rattle.std.proofs.Common.{◌≡◌, ℕ, Bool, true, not, ◌&&◌, ◌==◌, List, sym, ap, arith}
 use Rattle.std.specs.List.{AllPass, position_or_len}
 use Rattle.std.specs.Set.{is_member}
 use Rattle.std.proofs.lemmas.Bool.{eq-eqb, eqb-true}

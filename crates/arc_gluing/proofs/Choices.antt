@@ -1,10 +1,12 @@
--- What holds of each choice of terms.
-use Rattle.std.proofs.Common.{◌≡◌, ℕ, ◌*◌, List, [], ◌∷◌, ◌++◌, sum_by, refl, sym, ap, subst, ◌∙◌, append_assoc}
+-- What holds of the edges of each choice of one term in each node.
+--
+-- Others cite: AllChoices, AllChoices-weaker, AllChoices-append, total_choices.
+use Rattle.std.proofs.Common.{◌≡◌, ℕ, ◌*◌, List, [], ◌∷◌, ◌++◌, ap, subst, append_assoc}
 use Rattle.std.specs.List.{All}
 use Rattle.std.proofs.lemmas.List.Elements.{All-weaker}
 use Rattle.state_sums.proofs.StateEdges.{sum_by_all}
 use Rattle.state_sums.proofs.Sums.{total}
-use Rattle.state_sums.specs.Networks.{Node, Term}
+use Rattle.state_sums.specs.Networks.{Node}
 use Rattle.state_sums.specs.StateSums.{term_edges}
 
 abbrev pub AllChoices : List Node → (List (ℕ × ℕ) → Type 0) → Type 0

@@ -1,18 +1,16 @@
 -- Each state of some nodes pairs their open names: node by node, since a node keeps it.
 --
 -- Others cite: names_of-more, AreFew-front, AreOpen-singles, few_between, left_between, each_choice.
-use Rattle.std.proofs.Common.{◌≡◌, ℕ, zero, suc, ◌+◌, ◌≤◌, ◌<◌, Bool, true, false, cond, ◌==◌, ⊎_elim, List, [], ◌∷◌, ◌++◌, map, length, slice_index, get_or, refl, sym, ap, subst, ◌∙◌, arith, append-nil, append_assoc}
-use Rattle.std.specs.List.{All, AllPass, Contains, filter, flat_map}
-use Rattle.std.specs.Set.{is_member}
+use Rattle.std.proofs.Common.{◌≡◌, ℕ, ◌+◌, ◌≤◌, Bool, true, false, cond, ◌==◌, ⊎_elim, List, [], ◌∷◌, ◌++◌, length, refl, sym, ap, subst, ◌∙◌, arith, append-nil, append_assoc}
+use Rattle.std.specs.List.{All, filter}
 use Rattle.std.proofs.lemmas.Bool.Decides.{nat_tests}
 use Rattle.std.proofs.lemmas.Bool.{cases_Bool}
 use Rattle.std.proofs.lemmas.List.Concat.{flat_map-append}
-use Rattle.std.proofs.lemmas.List.Elements.{All-head, All-tail, All-cons, All-nil, All-weaker, All-append}
+use Rattle.std.proofs.lemmas.List.Elements.{All-head, All-tail, All-weaker}
 use Rattle.std.proofs.lemmas.List.Sums.{sum_by-cons}
-use Rattle.state_sums.specs.Networks.{Node, Term, IsNode, IsPairing, names_of, times_in}
-use Rattle.state_sums.specs.StateSums.{states, state_edges, term_edges}
+use Rattle.state_sums.specs.Networks.{Node, IsNode, IsPairing, names_of, times_in}
+use Rattle.state_sums.specs.StateSums.{term_edges}
 use Rattle.arc_gluing.specs.Laws.{AreFew}
-use Rattle.arc_gluing.specs.Mates.{label_partners}
 use Rattle.arc_gluing.specs.Pairings.{AreOpen}
 use Rattle.arc_gluing.specs.Seams.{IsLeft}
 use Rattle.arc_gluing.proofs.Choices.{AllChoices, AllChoices-weaker, AllChoices-append}

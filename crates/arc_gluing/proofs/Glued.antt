@@ -1,8 +1,11 @@
--- What all pairs of an old pairing and of a term give.
-use Rattle.std.proofs.Common.{◌≡◌, ◌≢◌, ℕ, zero, suc, ◌+◌, ◌-◌, ◌≤◌, ◌<◌, nat_lt, Bool, true, false, cond, ◌||◌, ◌==◌, ◌⊎◌, ⊎_elim, List, [], ◌∷◌, ◌++◌, map, length, slice_index, zip, refl, sym, ap, subst, ◌∙◌, arith}
+-- The pairs of an old pairing and of a term, joined by mates: each name that is left has the other one with its label as its
+-- mate, and the loops are the labels that no such name has.
+--
+-- Others cite: EndsAre-pair_edges, EndsAre-both, glued, loops-closed.
+use Rattle.std.proofs.Common.{◌≡◌, ℕ, zero, suc, ◌≤◌, ◌<◌, nat_lt, Bool, true, false, cond, ◌==◌, List, [], ◌∷◌, ◌++◌, map, length, slice_index, refl, sym, ap, subst, ◌∙◌, arith}
 use Rattle.std.specs.Set.{is_member}
 use Rattle.std.specs.List.{AllPass}
-use Rattle.std.proofs.lemmas.Bool.{eq-eqb, eqb-true, or_left, or_right}
+use Rattle.std.proofs.lemmas.Bool.{or_left, or_right}
 use Rattle.std.proofs.lemmas.Bool.Decides.{nat_tests}
 use Rattle.std.proofs.lemmas.List.{get_or-map, length-map}
 use Rattle.std.proofs.lemmas.List.Elements.{All-cons, All-nil}
@@ -10,9 +13,9 @@ use Rattle.state_sums.proofs.StateEdges.{EndsAre-term}
 use Rattle.arc_gluing.proofs.Items.{all_below}
 use Rattle.arc_gluing.proofs.Copied.{copied-count}
 use Rattle.graph_parts.proofs.Counting.{label_after-append}
-use Rattle.arc_gluing.proofs.AllEdges.{times_of_member, member_of_times, IsMated-after, loops_after-count}
-use Rattle.arc_gluing.proofs.Kept.{Keeps, Keeps-append, Keeps-front, Keeps-rest, Keeps-own, kept, Keeps-both, Keeps-once, label_count-within}
-use Rattle.arc_gluing.proofs.PointPairs.{times_in-append, ends_of-append, times_in-pairs}
+use Rattle.arc_gluing.proofs.AllEdges.{times_of_member, IsMated-after, loops_after-count}
+use Rattle.arc_gluing.proofs.Kept.{Keeps, Keeps-append, Keeps-front, Keeps-rest, Keeps-own, kept, Keeps-both, Keeps-once}
+use Rattle.arc_gluing.proofs.PointPairs.{times_in-pairs}
 use Rattle.graph_parts.proofs.Agreement.{label_count-agree, eqb_from_iff}
 use Rattle.graph_parts.proofs.Distinct.{is_member-append}
 use Rattle.graph_parts.proofs.Ends.{EndsAre-append, EndsAre-weaker, is_member-get_or}

@@ -1,7 +1,7 @@
--- The laws of gluing.
+-- The laws of gluing, from the same facts by labels: of each state, of one more term, and of the sums over all states.
 --
--- Others cite: paired_states, one_pairing_by_parts, gluing, one_more_node, whole_network.
-use Rattle.std.proofs.Common.{◌≡◌, ℕ, zero, suc, ◌+◌, ◌*◌, ◌^◌, ◌≤◌, ◌<◌, Bool, true, false, cond, ◌==◌, List, [], ◌∷◌, ◌++◌, map, length, slice_index, sum_by, refl, sym, ap, subst, ◌∙◌, arith, append-nil, append_assoc, mul_assoc, mul_left_comm, All}
+-- Others cite: open_among, one_pairing_by_parts, paired_states, glued_pairing, glued_closed, gluing, one_more_node, whole_network.
+use Rattle.std.proofs.Common.{◌≡◌, ℕ, suc, ◌+◌, ◌*◌, ◌^◌, ◌≤◌, ◌==◌, List, [], ◌∷◌, ◌++◌, map, length, slice_index, refl, sym, ap, subst, ◌∙◌, arith, append-nil, append_assoc, mul_assoc, mul_left_comm, All}
 use Rattle.std.specs.List.{AllPass, flat_map}
 use Rattle.std.specs.Set.{is_member}
 use Rattle.std.proofs.Math.Pow.{pow-add}
@@ -14,22 +14,22 @@ use Rattle.graph_parts.specs.Patterns.{closed_parts, label_closed}
 use Rattle.graph_parts.proofs.Ends.{is_member-get_or, EndsAre-append, EndsAre-weaker}
 use Rattle.graph_parts.proofs.Distinct.{is_member-append}
 use Rattle.graph_parts.proofs.PatternLabels.{closed_parts-labels}
-use Rattle.state_sums.specs.Networks.{Node, Network, Term, IsNode, IsPairing, names_of, times_in}
-use Rattle.state_sums.specs.StateSums.{states, state_edges, state_weight, state_sum, term_edges}
-use Rattle.state_sums.proofs.StateEdges.{HavePlaces, HavePlaces-from_nodes, total_same, sum_by_all}
+use Rattle.state_sums.specs.Networks.{Node, Term, IsPairing, names_of, times_in}
+use Rattle.state_sums.specs.StateSums.{states, state_edges, state_weight, term_edges}
+use Rattle.state_sums.proofs.StateEdges.{sum_by_all}
 use Rattle.state_sums.proofs.Sums.{total, total_is, total-append, sum_by_same, sum_by-times}
 use Rattle.arc_gluing.specs.Laws.{AreFew, PairedStatesLaw, OnePairingLaw, IsGluedTo, GluingLaw, OneMoreNodeLaw, WholeNetworkLaw}
-use Rattle.arc_gluing.specs.Mates.{IsPairedLabels, label_partners}
+use Rattle.arc_gluing.specs.Mates.{label_partners}
 use Rattle.arc_gluing.specs.Pairings.{pair_edges, IsPairedBy, partners_of, AreOpen}
 use Rattle.arc_gluing.specs.Seams.{IsLeft}
 use Rattle.arc_gluing.specs.Sums.{pairing_sum, worth_before}
 use Rattle.arc_gluing.proofs.AllEdges.{times_of_member, member_of_times}
 use Rattle.arc_gluing.proofs.ByParts.{IsPairedBy-from_labels, IsPairedLabels-from_walks, partners_of-labels}
-use Rattle.arc_gluing.proofs.Choices.{AllChoices, AllChoices-weaker, AllChoices-append, total_choices}
+use Rattle.arc_gluing.proofs.Choices.{AllChoices, total_choices}
 use Rattle.arc_gluing.proofs.EachState.{names_of-more, AreFew-front, few_between, left_between, each_choice}
 use Rattle.arc_gluing.proofs.Glued.{EndsAre-pair_edges}
 use Rattle.arc_gluing.proofs.Items.{all_pass_at}
-use Rattle.arc_gluing.proofs.OneNode.{IsChoice, AreOnce-open, label_partners-glue, label_closed-glue2, short_paired}
+use Rattle.arc_gluing.proofs.OneNode.{IsChoice, AreOnce-open, label_partners-glue, label_closed-more}
 use Rattle.arc_gluing.proofs.Places.{label_partners-is}
 use Rattle.arc_gluing.proofs.PointPairs.{times_in-append}
 
@@ -145,7 +145,7 @@ module _ (nodes : List Node) (node : Node) (inner outer : List ℕ) (few : AreFe
       ≡ closed_parts (names_of nodes) es inner + closed_parts (inner ++ node.ends) (pair_edges inner (partners_of (names_of nodes) es inner) ++ pair_edges node.ends term) outer
   glued_closed =
       let a = closed_parts-labels (names ++ ends) (es ++ pair_edges ends term) wide_inside outer wide_open in
-      let b = label_closed-glue2 names ends inner outer few2 open_in out es choice term pt lt in
+      let b = label_closed-more names ends inner outer few2 open_in out es choice term pt lt in
       let c = closed_parts-labels names es choice.inside inner (open_among names inner open_in) in
       let d = short_closed in
       let e = ap (λ p. closed_parts (inner ++ ends) (pair_edges inner p ++ pair_edges ends term) outer) (sym inner_is) in

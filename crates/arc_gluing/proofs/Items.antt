@@ -1,11 +1,10 @@
 -- Members of lists of numbers, by places.
 --
 -- Others cite: below_member, member_at, all_below, all_pass_at, same_items, get_front, get_past.
-use Rattle.std.proofs.Common.{◌≡◌, ℕ, zero, suc, ◌+◌, ◌≤◌, ◌<◌, Bool, true, ◌==◌, ⊎_elim, List, [], ◌∷◌, ◌++◌, length, slice_index, refl, sym, arith}
+use Rattle.std.proofs.Common.{◌≡◌, ℕ, zero, suc, ◌≤◌, ◌<◌, Bool, true, ◌==◌, ⊎_elim, List, [], ◌∷◌, ◌++◌, length, slice_index, refl, sym, arith}
 use Rattle.std.specs.List.{All, AllPass}
 use Rattle.std.specs.Set.{is_member}
 use Rattle.std.proofs.lemmas.Bool.{eqb-true, or_cases}
-use Rattle.std.proofs.lemmas.Bool.Decides.{nat_tests}
 use Rattle.std.proofs.lemmas.List.Elements.{All-cons, All-nil}
 
 pub below_member : (bound : ℕ) (xs : List ℕ) → ((i : ℕ) → i < length xs → slice_index xs i < bound) → (x : ℕ) → is_member ◌==◌ xs x ≡ true → x < bound

@@ -1,15 +1,19 @@
--- Labels that edges keep.
-use Rattle.std.proofs.Common.{◌≡◌, ◌≢◌, ℕ, zero, suc, ◌+◌, ◌≤◌, ◌<◌, nat_lt, Bool, true, false, cond, ◌||◌, ◌==◌, ◌⊎◌, ⊎_elim, List, [], ◌∷◌, ◌++◌, map, length, slice_index, zip, Contains, refl, sym, ap, subst, ◌∙◌, arith}
-use Rattle.std.specs.Set.{is_member, distinct_count}
+-- Labels that edges keep: names that edges join have one label, in every labelling that is equal at the ends of each edge.
+-- So two lists of edges that keep each other's labels tell the same names apart: the pairs of a pairing, each once or twice.
+--
+-- Others cite: Keeps, Keeps-append, Keeps-front, Keeps-rest, Keeps-own, kept, Keeps-zip, zip-Keeps, Keeps-both, Keeps-once,
+-- label_count-within.
+use Rattle.std.proofs.Common.{◌≡◌, ◌≢◌, ℕ, zero, suc, ◌≤◌, ◌<◌, nat_lt, Bool, true, false, cond, ◌==◌, ⊎_elim, List, [], ◌∷◌, ◌++◌, map, length, slice_index, zip, Contains, refl, sym, ap, subst, ◌∙◌, arith}
+use Rattle.std.specs.Set.{is_member}
 use Rattle.std.specs.List.{AllPass}
-use Rattle.std.proofs.lemmas.Bool.{eq-eqb, eqb-true, cases_Bool, or_left, or_right, or_cases}
+use Rattle.std.proofs.lemmas.Bool.{eq-eqb, eqb-true, cases_Bool, or_left, or_right}
 use Rattle.std.proofs.lemmas.Bool.Decides.{nat_tests}
 use Rattle.std.proofs.lemmas.List.Elements.{All-cons, All-nil}
 use Rattle.graph_parts.proofs.Counting.{is_member-map}
 use Rattle.graph_parts.proofs.Distinct.{distinct_count-le_from_within}
 use Rattle.graph_parts.proofs.Walks.{labels-from_Joined, Contains-head, Contains-later}
 use Rattle.graph_parts.specs.Labels.{relabel, label_after, label_of, label_count}
-use Rattle.graph_parts.specs.Walks.{Joined, along}
+use Rattle.graph_parts.specs.Walks.{along}
 use Rattle.state_sums.specs.Networks.{IsPairing}
 use Rattle.arc_gluing.specs.Mates.{pairs_below}
 use Rattle.arc_gluing.specs.Pairings.{pair_edges}

@@ -15,3 +15,4 @@ pub mod EachState
 pub mod GluingLaws
 pub mod Slots
 pub mod Seamed
+mod Examples

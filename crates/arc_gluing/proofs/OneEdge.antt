@@ -1,9 +1,12 @@
--- One edge more.
-use Rattle.std.proofs.Common.{◌≡◌, ◌≢◌, ℕ, ◌+◌, ◌≤◌, Bool, true, false, cond, ◌==◌, ◌⊎◌, ⊎_elim, List, [], ◌∷◌, ◌++◌, refl, sym, ap, subst, ◌∙◌, arith}
+-- One edge more: where the mates know the ends of all paths, they do so after an edge between a and b. Either the mate of a
+-- is b, a loop closes and both are gone; or the paths of a and b become one, whose ends are the mates of a and b.
+--
+-- Others cite: same_or_not, IsMated-joined, and of the two cases has_a, not_a, not_b, label_same, left_u, lab_u, lab_apart.
+use Rattle.std.proofs.Common.{◌≡◌, ◌≢◌, ℕ, ◌+◌, ◌≤◌, cond, ◌==◌, ⊎_elim, sym, ap, subst, ◌∙◌, arith}
 use Rattle.std.proofs.lemmas.Bool.{eq-eqb, eqb-true, cases_Bool}
 use Rattle.std.proofs.lemmas.Bool.Decides.{nat_tests}
-use Rattle.graph_parts.specs.Labels.{relabel, label_after}
-use Rattle.arc_gluing.specs.Mates.{put, joined_mates, closes, IsMated}
+use Rattle.graph_parts.specs.Labels.{relabel}
+use Rattle.arc_gluing.specs.Mates.{put, joined_mates, IsMated}
 
 pub same_or_not : {C : Type 0} (x y : ℕ) → (x ≡ y → C) → (x ≢ y → C) → C
 same_or_not x y f g = ⊎_elim (λ e. f (eqb-true x y e)) (λ e. g (λ t. let k = eq-eqb x y t in grind (arith, k, e))) (cases_Bool (x == y))

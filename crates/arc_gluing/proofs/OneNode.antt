@@ -1,14 +1,11 @@
--- One node more.
-use Rattle.std.proofs.Common.{◌≡◌, ◌≢◌, ℕ, zero, suc, ◌+◌, ◌*◌, ◌^◌, ◌≤◌, ◌<◌, Bool, true, false, cond, ◌||◌, ◌==◌, ◌⊎◌, ⊎_elim, List, [], ◌∷◌, ◌++◌, map, length, slice_index, sum_by, refl, sym, ap, subst, ◌∙◌, arith, append-nil, append_assoc, mul_assoc, mul_left_comm}
+-- One node more behind a choice of terms: the pairing and the closed parts after it, by labels.
+--
+-- Others cite: IsChoice, AreOnce-open, short_paired, label_partners-glue, label_closed-more, next_choice.
+use Rattle.std.proofs.Common.{◌≡◌, ℕ, ◌+◌, ◌≤◌, true, ◌==◌, List, ◌++◌, map, length, slice_index, sym, subst, arith}
 use Rattle.std.specs.Set.{is_member}
-use Rattle.std.specs.List.{All, AllPass}
-use Rattle.std.proofs.Math.Pow.{pow-add}
-use Rattle.std.proofs.lemmas.Bool.{eq-eqb}
+use Rattle.std.specs.List.{AllPass}
 use Rattle.std.proofs.lemmas.Bool.Decides.{nat_tests}
-use Rattle.std.proofs.lemmas.List.Concat.{flat_map-append}
-use Rattle.std.proofs.lemmas.List.Elements.{All-head, All-tail, All-weaker}
 use Rattle.arc_gluing.proofs.AllEdges.{times_of_member, member_of_times}
-use Rattle.arc_gluing.proofs.Choices.{AllChoices, AllChoices-weaker, AllChoices-append, total_choices}
 use Rattle.arc_gluing.proofs.Glued.{glued}
 use Rattle.arc_gluing.proofs.Places.{AreOnce, AreOnce-from_times, place_in-at, place_in-found, label_partners-is}
 use Rattle.arc_gluing.proofs.PointPairs.{times_in-append, times_in-pairs}
@@ -19,10 +16,7 @@ use Rattle.graph_parts.proofs.Distinct.{is_member-append}
 use Rattle.graph_parts.proofs.Ends.{EndsAre-append, EndsAre-weaker, is_member-get_or}
 use Rattle.graph_parts.specs.Ends.{EndsAre}
 use Rattle.graph_parts.specs.Patterns.{label_closed}
-use Rattle.state_sums.proofs.StateEdges.{sum_by_all}
-use Rattle.state_sums.proofs.Sums.{total, total_is, total-append, sum_by_same, sum_by-times}
-use Rattle.state_sums.specs.Networks.{times_in, Node, Term, names_of, IsPairing}
-use Rattle.state_sums.specs.StateSums.{term_edges}
+use Rattle.state_sums.specs.Networks.{times_in, IsPairing}
 use Rattle.graph_parts.specs.Labels.{label_of}
 use Rattle.arc_gluing.proofs.Copied.{stepped}
 use Rattle.arc_gluing.specs.Mates.{mates_after, pairs_below, ends_of, IsMated, IsPairedLabels, label_partners}
@@ -96,8 +90,8 @@ module _ (names ends inner outer : List ℕ) (few : (x : ℕ) → times_in names
     pub label_partners-glue : label_partners (es ++ pair_edges ends term) outer ≡ label_partners short outer
     label_partners-glue = label_partners-is (es ++ pair_edges ends term) outer (label_partners short outer) once_out whole_any
 
-    pub label_closed-glue2 : label_closed (es ++ pair_edges ends term) (names ++ ends) outer ≡ label_closed es names inner + label_closed short (inner ++ ends) outer
-    label_closed-glue2 = label_closed-pairing names ends inner outer (label_partners es inner) es (pair_edges ends term) choice.inside term_inside has meets left choice.paired
+    pub label_closed-more : label_closed (es ++ pair_edges ends term) (names ++ ends) outer ≡ label_closed es names inner + label_closed short (inner ++ ends) outer
+    label_closed-more = label_closed-pairing names ends inner outer (label_partners es inner) es (pair_edges ends term) choice.inside term_inside has meets left choice.paired
 
     pub next_choice : IsChoice (names ++ ends) outer (es ++ pair_edges ends term)
     next_choice = record {
@@ -106,4 +100,3 @@ module _ (names ends inner outer : List ℕ) (few : (x : ℕ) → times_in names
           (EndsAre-weaker (is_member ◌==◌ ends) (is_member ◌==◌ (names ++ ends)) (λ x m. let a = is_member-append names ends x in grind (arith, a, m)) (pair_edges ends term) term_inside);
       paired = let P : List ℕ → Type 0 = λ p. IsPairedLabels (es ++ pair_edges ends term) outer p in subst P (sym label_partners-glue) whole_any;
     }
-

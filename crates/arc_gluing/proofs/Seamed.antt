@@ -1,18 +1,19 @@
--- The gluing at slots, told by names.
-use Rattle.std.proofs.Common.{◌≡◌, ◌≢◌, ℕ, zero, suc, ◌+◌, ◌-◌, ◌≤◌, ◌<◌, Bool, true, false, cond, ◌||◌, ◌==◌, ◌⊎◌, ⊎_elim, List, [], ◌∷◌, ◌++◌, map, length, slice_index, zip, refl, sym, ap, subst, ◌∙◌, arith}
+-- The gluing at slots, told by names: the mates of the slots that are left give the partners by parts, and the loops are the
+-- parts with no name that is left.
+--
+-- Others cite: range_times, paired, partners_are, loops, left_small.
+use Rattle.std.proofs.Common.{◌≡◌, ℕ, zero, suc, ◌+◌, ◌≤◌, ◌<◌, true, cond, ◌==◌, ⊎_elim, List, ◌++◌, map, length, slice_index, refl, sym, ap, subst, ◌∙◌, arith}
 use Rattle.std.specs.Set.{is_member}
-use Rattle.std.specs.List.{AllPass, All, range_with_len}
-use Rattle.std.proofs.lemmas.Bool.{eq-eqb, eqb-true, or_left, or_right, or_cases}
+use Rattle.std.specs.List.{range_with_len}
+use Rattle.std.proofs.lemmas.Bool.{or_cases}
 use Rattle.std.proofs.lemmas.Bool.Decides.{nat_tests}
-use Rattle.std.proofs.lemmas.List.{get_or-map, length-map, map-append}
-use Rattle.std.proofs.lemmas.List.Elements.{All-cons, All-nil}
+use Rattle.std.proofs.lemmas.List.{map-append}
 use Rattle.std.proofs.lemmas.List.FromFn.{length-range_with_len, get_or-range_with_len}
 use Rattle.graph_parts.proofs.Distinct.{is_member-append}
-use Rattle.graph_parts.proofs.Ends.{EndsAre-append, EndsAre-weaker, is_member-get_or}
+use Rattle.graph_parts.proofs.Ends.{is_member-get_or}
 use Rattle.graph_parts.specs.Ends.{EndsAre}
 use Rattle.graph_parts.specs.Patterns.{label_closed}
 use Rattle.graph_parts.specs.Renaming.{renamed}
-use Rattle.state_sums.proofs.StateEdges.{EndsAre-term}
 use Rattle.state_sums.specs.Networks.{times_in, IsPairing}
 use Rattle.std.proofs.Common.{not, nat_lt}
 use Rattle.std.proofs.lemmas.Bool.{cases_Bool}
@@ -35,7 +36,7 @@ use Rattle.arc_gluing.proofs.SlotNames.{IsPairedLabels-named, label_closed-named
 use Rattle.arc_gluing.proofs.Slots.{slots_are, slots_left, left_long, left_named, range_named}
 
 -- each number of a range stands there once
-range_times : (a n x : ℕ) → (times_in (range_with_len a n) x ≤ 1) × (x < a → times_in (range_with_len a n) x ≡ 0)
+pub range_times : (a n x : ℕ) → (times_in (range_with_len a n) x ≤ 1) × (x < a → times_in (range_with_len a n) x ≡ 0)
 range_times a zero x = (omega arith, λ l. refl)
 range_times a (suc n) x =
     let ih = range_times (a + 1) n x in

@@ -1,19 +1,19 @@
--- Slots in the place of names.
-use Rattle.std.proofs.Common.{◌≡◌, ◌≢◌, ℕ, zero, suc, ◌+◌, ◌-◌, ◌≤◌, ◌<◌, Bool, true, false, cond, ◌||◌, ◌==◌, ◌⊎◌, ⊎_elim, List, [], ◌∷◌, ◌++◌, map, length, slice_index, zip, refl, sym, ap, subst, ◌∙◌, arith}
+-- Slots in the place of names: a pairing of slots is one of their names, and as many parts are closed.
+--
+-- Others cite: IsPairedLabels-named, label_closed-named, pair_edges-map.
+use Rattle.std.proofs.Common.{◌≡◌, ℕ, ◌<◌, true, ◌==◌, List, map, length, slice_index, zip, sym, ap, ◌∙◌, arith}
 use Rattle.std.specs.Set.{is_member}
 use Rattle.std.specs.List.{AllPass, All}
-use Rattle.std.proofs.lemmas.Bool.{eq-eqb, eqb-true, or_left, or_right}
-use Rattle.std.proofs.lemmas.Bool.Decides.{nat_tests}
-use Rattle.std.proofs.lemmas.List.{get_or-map, length-map, map-append}
+use Rattle.std.proofs.lemmas.Bool.{eq-eqb, eqb-true}
+use Rattle.std.proofs.lemmas.List.{get_or-map, length-map}
 use Rattle.graph_parts.proofs.Agreement.{label_count-agree}
-use Rattle.graph_parts.proofs.Ends.{is_member-get_or, is_member-itself}
+use Rattle.graph_parts.proofs.Ends.{is_member-itself}
 use Rattle.graph_parts.proofs.Renaming.{label_after-map, label_count-map, Agree-renamed, zip_map}
 use Rattle.graph_parts.specs.Ends.{EndsAre}
-use Rattle.graph_parts.specs.Labels.{label_of, label_after, label_count, Agree}
+use Rattle.graph_parts.specs.Labels.{label_of, label_after}
 use Rattle.graph_parts.specs.Patterns.{label_closed}
 use Rattle.graph_parts.specs.Renaming.{renamed, IsOneToOne}
 use Rattle.state_sums.proofs.NodeNames.{map_within}
-use Rattle.state_sums.specs.Networks.{IsPairing}
 use Rattle.arc_gluing.specs.Mates.{IsPairedLabels}
 use Rattle.arc_gluing.specs.Pairings.{pair_edges}
 

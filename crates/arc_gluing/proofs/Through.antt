@@ -1,14 +1,15 @@
--- The edges of a pairing stand in for the nodes that gave it.
-use Rattle.std.proofs.Common.{◌≡◌, ◌≢◌, ℕ, zero, suc, ◌+◌, ◌-◌, ◌≤◌, ◌<◌, Bool, true, false, cond, not, ◌||◌, ◌==◌, ◌⊎◌, ⊎_elim, List, [], ◌∷◌, ◌++◌, map, length, slice_index, zip, refl, sym, ap, subst, ◌∙◌, arith}
+-- The pairs of a pairing stand in for the edges that gave it, under any edges that meet these at paired names alone.
+--
+-- Others cite: label_closed-pairing, IsPairedLabels-through, pattern-from_pairing, pairing-from_pattern, one_pairing.
+use Rattle.std.proofs.Common.{◌≡◌, ℕ, ◌+◌, ◌<◌, Bool, true, ◌==◌, ⊎_elim, List, ◌++◌, length, slice_index, zip, sym, ap, ◌∙◌, arith}
 use Rattle.std.specs.Set.{is_member}
 use Rattle.std.specs.List.{AllPass}
-use Rattle.std.proofs.lemmas.Bool.{eq-eqb, eqb-true, or_left, or_right, or_cases, cases_Bool}
-use Rattle.std.proofs.lemmas.Bool.Decides.{nat_tests}
-use Rattle.std.proofs.lemmas.List.Elements.{All-weaker, All-head, All-tail}
+use Rattle.std.proofs.lemmas.Bool.{eq-eqb, eqb-true, or_left, cases_Bool}
+use Rattle.std.proofs.lemmas.List.Elements.{All-weaker}
 use Rattle.arc_gluing.proofs.Kept.{Keeps, Keeps-own, Keeps-zip, zip-Keeps, kept}
 use Rattle.arc_gluing.proofs.OneEdge.{same_or_not}
 use Rattle.graph_parts.proofs.Agreement.{from_All}
-use Rattle.arc_gluing.proofs.Items.{same_items, member_at, all_pass_at}
+use Rattle.arc_gluing.proofs.Items.{same_items, member_at}
 use Rattle.graph_parts.proofs.Agreement.{eqb_from_iff, label_count-agree, label_count-swap}
 use Rattle.graph_parts.proofs.Counting.{label_after-append, Agree-after}
 use Rattle.graph_parts.proofs.Distinct.{is_member-append}
@@ -17,9 +18,8 @@ use Rattle.graph_parts.proofs.Gluing.{label_closed-glue}
 use Rattle.graph_parts.proofs.Renaming.{first_like-agree, map_agree_on}
 use Rattle.graph_parts.proofs.Through.{is_outer, alone, Agree-pattern}
 use Rattle.graph_parts.specs.Ends.{EndsAre}
-use Rattle.graph_parts.specs.Labels.{label_of, label_after, label_count, Agree}
-use Rattle.graph_parts.specs.Patterns.{label_closed, label_pattern, first_like}
-use Rattle.state_sums.specs.Networks.{IsPairing}
+use Rattle.graph_parts.specs.Labels.{label_of, Agree}
+use Rattle.graph_parts.specs.Patterns.{label_closed, label_pattern}
 use Rattle.arc_gluing.specs.Mates.{IsPairedLabels}
 use Rattle.arc_gluing.specs.Pairings.{pair_edges}
 

@@ -7,7 +7,7 @@ use Rattle.std.specs.Prelude.{◌≡◌, ℕ, ◌+◌, ◌*◌, ◌^◌, ◌≤�
 use Rattle.std.specs.List.{All}
 use Rattle.graph_parts.specs.Ends.{AreAmong}
 use Rattle.graph_parts.specs.Patterns.{closed_parts}
-use Rattle.state_sums.specs.Networks.{Node, Network, Term, IsNode, names_of, times_in}
+use Rattle.state_sums.specs.Networks.{Node, Term, IsNode, names_of, times_in}
 use Rattle.state_sums.specs.StateSums.{states, state_edges, state_sum}
 use Rattle.arc_gluing.specs.Pairings.{pair_edges, IsPairedBy, partners_of, AreOpen}
 use Rattle.arc_gluing.specs.Sums.{pairing_sum, worth_before}

@@ -11,7 +11,7 @@
 --     IsMated times mate label     each name that is still to come, as often as `times` says, knows the other end of its path
 --     IsPairedLabels edges names partner    the partner of each name is the other one with its label
 --     label_partners edges names   the partners, by labels
-use Rattle.std.specs.Prelude.{◌≡◌, ◌≢◌, ℕ, zero, suc, ◌+◌, ◌<◌, ◌≤◌, ◌==◌, ◌&&◌, not, nat_lt, Bool, if◌then◌else◌, List, [], ◌∷◌, ◌++◌, map, length, slice_index}
+use Rattle.std.specs.Prelude.{◌≡◌, ◌≢◌, ℕ, zero, suc, ◌+◌, ◌<◌, ◌≤◌, ◌==◌, ◌&&◌, not, nat_lt, if◌then◌else◌, List, [], ◌∷◌, ◌++◌, map, length, slice_index}
 use Rattle.std.specs.List.{fold, position_or_len}
 use Rattle.graph_parts.specs.Labels.{label_of}
 use Rattle.state_sums.specs.Networks.{IsPairing}

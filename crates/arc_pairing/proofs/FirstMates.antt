@@ -3,7 +3,7 @@
 --     AreFirstMates partners mates point     the points before `point` have their partners, each other slot itself
 --
 -- Others cite: slots_are, first_none, first_more, first_small.
-use Rattle.std.proofs.Common.{◌≡◌, ◌≢◌, ℕ, zero, suc, ◌+◌, ◌≤◌, ◌<◌, Bool, true, false, nat_lt, List, [], ◌∷◌, length, slice_index, refl, sym, ap, subst, ◌∙◌, ◌⊎◌, ⊎_elim, arith, get_or-set_other, get_or-set_same}
+use Rattle.std.proofs.Common.{◌≡◌, ℕ, ◌+◌, ◌≤◌, ◌<◌, List, length, slice_index, sym, subst, ◌∙◌, ⊎_elim, arith, get_or-set_other, get_or-set_same}
 use Rattle.std.specs.List.{range_with_len}
 use Rattle.std.proofs.Math.ListN.{set, length-set}
 use Rattle.std.proofs.lemmas.Bool.{cases_lt}

@@ -1,11 +1,9 @@
 -- What `glue` knows when it returns: the mates of the slots that are left tell the partners by parts.
 --
 -- Others cite: end_paired, end_partners, end_loops, end_slots_small, outer_slots_small, end_short.
-use Rattle.std.proofs.Common.{◌≡◌, ◌≢◌, ℕ, ◌+◌, ◌≤◌, ◌<◌, List, ◌++◌, map, length, slice_index, refl, sym, ap, subst, ◌∙◌, ⊎_elim, arith}
+use Rattle.std.proofs.Common.{◌≡◌, ℕ, ◌≤◌, ◌<◌, List, ◌++◌, map, length, slice_index, sym, ap, subst, ◌∙◌, ⊎_elim, arith}
 use Rattle.std.proofs.lemmas.Bool.{cases_lt}
-use Rattle.std.proofs.lemmas.List.{length-map}
 use Rattle.graph_parts.specs.Patterns.{closed_parts}
-use Rattle.state_sums.specs.Networks.{IsPairing}
 use Rattle.arc_gluing.specs.Mates.{mates_after, loops_after, pairs_below}
 use Rattle.arc_gluing.specs.Pairings.{pair_edges, IsPairedBy, partners_of}
 use Rattle.arc_gluing.specs.Seams.{IsSeam}

@@ -1,9 +1,13 @@
--- A step of the loop over a pairing's pairs.
-use Rattle.std.proofs.Common.{◌≡◌, ◌≢◌, ℕ, zero, suc, ◌+◌, ◌≤◌, ◌<◌, Bool, true, false, cond, nat_lt, ◌==◌, List, [], ◌∷◌, ◌++◌, length, slice_index, refl, sym, ap, subst, ◌∙◌, arith, append-nil, get_or-set_other, get_or-set_same, add-one}
+-- A step of the loop over the pairs of a term: it closes a loop, makes two mates, or passes over a pair that was joined.
+--
+--     IsAt start slots partner mates loops i     the loop has come to the point i
+--
+-- Others cite: IsAt, IsAt-closed, IsAt-open, IsAt-skipped.
+use Rattle.std.proofs.Common.{◌≡◌, ◌≢◌, ℕ, zero, suc, ◌+◌, ◌≤◌, ◌<◌, true, false, cond, nat_lt, List, [], ◌∷◌, ◌++◌, length, slice_index, sym, ap, subst, ◌∙◌, arith, append-nil, get_or-set_other, get_or-set_same, add-one}
 use Rattle.std.proofs.Math.ListN.{set, length-set}
 use Rattle.std.proofs.lemmas.Bool.Decides.{nat_tests}
 use Rattle.std.proofs.lemmas.List.Sums.{fold-append}
-use Rattle.arc_gluing.specs.Mates.{put, joined_mates, closes, mates_after, loops_after, pairs_below}
+use Rattle.arc_gluing.specs.Mates.{put, joined_mates, mates_after, loops_after, pairs_below}
 use Rattle.arc_gluing.proofs.OneEdge.{same_or_not}
 
 pub mates_after-append : (m : ℕ → ℕ) (es fs : List (ℕ × ℕ)) → mates_after m (es ++ fs) ≡ mates_after (mates_after m es) fs

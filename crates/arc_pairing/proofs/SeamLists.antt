@@ -1,8 +1,8 @@
 -- The lists of a seam: names that stand once, slots and their places.
 --
 -- Others cite: open_permuted, increasing_permuted, few_filtered, first_slot, placed_more, distinct_slots, made_seam.
-use Rattle.std.proofs.Common.{◌≡◌, ◌≢◌, ℕ, zero, suc, ◌+◌, ◌<◌, ◌≤◌, ◌==◌, Bool, true, false, cond, List, [], ◌∷◌, ◌++◌, length, map, slice_index, take, drop, IsPermutation, refl, sym, ap, subst, ◌∙◌, arith, get_or-set_other, get_or-set_same, length-append}
-use Rattle.std.specs.List.{filter, count_by, refill}
+use Rattle.std.proofs.Common.{◌≡◌, ◌≢◌, ℕ, ◌+◌, ◌<◌, ◌≤◌, ◌==◌, Bool, true, cond, List, ◌++◌, length, map, slice_index, take, drop, IsPermutation, sym, ap, subst, ◌∙◌, arith, get_or-set_other, get_or-set_same}
+use Rattle.std.specs.List.{filter, refill}
 use Rattle.std.specs.List.Sorted.{IsNonDecreasing, IsStrictlyIncreasing}
 use Rattle.std.specs.Set.{is_member}
 use Rattle.std.proofs.Math.ListN.{set}
@@ -19,7 +19,7 @@ use Rattle.arc_gluing.proofs.AllEdges.{times_of_member, member_of_times}
 use Rattle.arc_gluing.proofs.EachState.{AreOpen-singles}
 use Rattle.arc_gluing.proofs.OneEdge.{same_or_not}
 use Rattle.arc_gluing.proofs.Places.{AreOnce-from_times}
-use Rattle.arc_gluing.proofs.Slots.{found_in, increases}
+use Rattle.arc_gluing.proofs.Slots.{found_in}
 
 -- ---- the names that stand once
 pub open_permuted : (all found : List ℕ) → IsPermutation (filter (λ x. times_in all x == 1) all) found → AreOpen all found

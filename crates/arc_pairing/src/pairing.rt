@@ -13,7 +13,7 @@ use std::marker::Model;
 /// Contracts see a pairing as the list of partners. Its type keeps that every point has a partner,
 /// which is another point and names it back. Pairings are ordered as these lists are, in dictionary
 /// order: 1,0,3,2 is less than 2,3,0,1, and 1,0 is less than both.
-#[derive(Drop, PartialEq, Eq, PartialOrd, Ord)]
+#[derive(Drop, Debug, PartialEq, Eq, PartialOrd, Ord)]
 pub struct Pairing {
     pub(crate) partners: ArrayVec<u8, 24>,
 }

@@ -1,16 +1,13 @@
 //! Worked rows, and gluing against a walk along the arcs.
 
+ghost use Rattle.std.specs.Prelude.{◌≡◌, length, IfSome};
+
 use super::*;
 use std::cmp::Ordering;
 use std::test::Fail;
 
 /// The names of a gluing: those of the points from 1 on, and those of the ends from 1 past the open points on.
 const NAMES: [u32; 16] = [1, 2, 3, 4, 5, 6, 7, 8, 9, 10, 11, 12, 13, 14, 15, 16];
-
-/// More names than a pairing has room for.
-const MANY: [u32; 25] = [
-    1, 2, 3, 4, 5, 6, 7, 8, 9, 10, 11, 12, 13, 14, 15, 16, 17, 18, 19, 20, 21, 22, 23, 24, 25,
-];
 
 /// The pairing of so many points, at most 8, with this number: each first free point in turn gets a
 /// free partner. None past the last.
@@ -137,11 +134,16 @@ fn walked_loops(old: &Pairing, term: &Pairing, open: usize) -> Option<u32> {
 }
 
 /// The seam of so many points and as many ends, of which the first are glued and the last `open` are left.
-fn seam(points: usize, open: usize) -> Option<Seam> {
+fn seam(points: usize, open: usize) -> Option<Seam>
+    ensures { IfSome result (λ seam. (length seam.inner ≡ points) × (length seam.ends ≡ points)) }
+{
     if points > 8 || open > points {
         return None;
     }
-    Seam::of(&NAMES[..points], &NAMES[open..open + points]).ok()
+    match Seam::of(&NAMES[..points], &NAMES[open..][..points]) {
+        Ok(seam) => Some(seam),
+        Err(_) => None,
+    }
 }
 
 /// Whether `glue` gives what the walks give, for all pairings of so many points and ends.
@@ -157,7 +159,10 @@ fn agrees_with_walks(points: usize, turns: &mut Turns) -> Option<bool> {
             };
             for open in 0..=points {
                 let seam = seam(points, open)?;
-                if turns.count() > 1 << 40 {
+                if turns.count() > 1 << 40
+                    || usize::from(old.len()) != points
+                    || usize::from(term.len()) != points
+                {
                     return None;
                 }
                 let glued = glue(&old, &term, &seam, turns);
@@ -173,8 +178,14 @@ fn agrees_with_walks(points: usize, turns: &mut Turns) -> Option<bool> {
 
 #[test]
 fn worked_rows(rt: HostRuntime) -> Result<(), Fail> {
-    assert_eq!(rt; Pairing::new(&[1, 0, 3]).err(), Some(PairingFault::NotPairing { at: 2 }));
-    assert_eq!(rt; Pairing::new(&[0; 25]).err(), Some(PairingFault::Long { given: 25 }));
+    assert_eq!(rt;
+        Pairing::new(&[1, 0, 3]).err(),
+        Some(PairingFault::NotPairing { at: 2 })
+    );
+    assert_eq!(rt;
+        Pairing::new(&[0; 25]).err(),
+        Some(PairingFault::Long { given: 25 })
+    );
 
     let hook = Pairing::new(&[1, 0, 3, 2])?;
     let strands = Pairing::new(&[3, 2, 1, 0])?;
@@ -191,6 +202,18 @@ fn worked_rows(rt: HostRuntime) -> Result<(), Fail> {
         assert_eq!(rt; pairing.copy().partners(), pairing.partners());
         assert_eq!(rt; usize::from(pairing.len()), mirror.len());
     }
+    // 1 + 32 (0 + 32 (3 + 32 2)) + 4 * 2^120, and numbers that are no code
+    assert_eq!(rt; hook.code(), 68_609 + (4 << 120));
+    assert_eq!(rt; Pairing::from_code(68_609 + (4 << 120)), Some(hook.copy()));
+    for code in [
+        68_610 + (4 << 120),
+        68_609 + (5 << 120),
+        68_609 + (1 << 119) + (4 << 120),
+        25 << 120,
+        u128::MAX,
+    ] {
+        assert_eq!(rt; Pairing::from_code(code), None);
+    }
     assert_eq!(rt; hook.cmp(&crossed), Ordering::Less);
     assert_eq!(rt; strands.cmp(&crossed), Ordering::Greater);
     assert_eq!(rt; apart.cmp(&hook), Ordering::Greater);
@@ -201,8 +224,6 @@ fn worked_rows(rt: HostRuntime) -> Result<(), Fail> {
     assert_eq!(rt; seam.names(), [7].as_slice());
     let seam = Seam::of(&[2, 4, 9], &[9, 1, 4, 7])?;
     assert_eq!(rt; seam.names(), [1, 2, 7].as_slice());
-    let wide = Seam::of(&MANY[..24], &MANY[24..]);
-    assert_eq!(rt; wide.err(), Some(TooWide { ends: 25 }));
 
     // a crossing with a curl closes two loops in one smoothing and one in the other
     let mut turns = Turns::new();
@@ -222,7 +243,11 @@ fn worked_rows(rt: HostRuntime) -> Result<(), Fail> {
 
     // every pairing of up to 8 points, at every number of open points
     for points in 0..=8 {
-        assert_eq!(rt; agrees_with_walks(points, &mut turns), Some(true), "{points} points");
+        assert_eq!(rt;
+            agrees_with_walks(points, &mut turns),
+            Some(true),
+            "{points} points"
+        );
     }
     let mut all = Turns::new();
     assert!(rt; turns.count() < 1 << 40);
@@ -235,7 +260,10 @@ fn worked_rows(rt: HostRuntime) -> Result<(), Fail> {
 #[test]
 fn nodes_and_networks(rt: HostRuntime) -> Result<(), Fail> {
     let arc = Pairing::new(&[1, 0])?;
-    let terms = [Term { weight: 1, pairing: arc }];
+    let terms = [Term {
+        weight: 1,
+        pairing: arc,
+    }];
     let long = Node::new(rt.alloc(), 0, &[1; 25], &terms);
     assert_eq!(rt; long.err(), Some(NodeFault::Long { given: 25 }));
     let misfit = Node::new(rt.alloc(), 0, &[1, 2, 3], &terms);

@@ -1,4 +1,3 @@
-use Rattle.std.proofs.Common.{◌≡◌, ℕ, ◌<◌, ◌≤◌, length, slice_index}
 use Rattle.arc_pairing.proofs.FirstMates.{AreFirstMates}
 use Rattle.arc_pairing.proofs.gluing.first_mates.Given as goal
 

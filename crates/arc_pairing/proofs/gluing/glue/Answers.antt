@@ -1,5 +1,4 @@
 -- Each answer is one lemma on the whole gluing, at the lists that the calls gave.
-use Rattle.std.proofs.Common.{◌≡◌, ℕ, length}
 use Rattle.arc_pairing.proofs.GluedPairings.{end_paired, end_partners, end_loops, end_short, end_slots_small, outer_slots_small}
 use Rattle.arc_pairing.proofs.gluing.glue.Goals as goal
 

@@ -1,6 +1,6 @@
-use Rattle.std.proofs.Common.{◌≡◌, ℕ, ◌<◌, ◌≤◌, ◌+◌, length, slice_index, slice_set, sym, ap, ◌∙◌, arith, rules}
+use Rattle.std.proofs.Common.{◌≡◌, ℕ, length, slice_index, slice_set, sym, ap, ◌∙◌, arith}
 use Rattle.std.proofs.Math.ListN.{length-set}
-use Rattle.arc_pairing.proofs.Joins.{IsAt, IsAt-closed, IsAt-open, IsAt-skipped}
+use Rattle.arc_pairing.proofs.Joins.{IsAt-closed, IsAt-open, IsAt-skipped}
 use Rattle.arc_pairing.proofs.gluing.join_pairs.Goals as goal
 use Rattle.arc_pairing.proofs.gluing.join_pairs.Goals.{then-i-j+then-c-b, then-i-j+else-c-b, else-i-j}
 

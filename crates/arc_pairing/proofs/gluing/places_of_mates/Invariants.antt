@@ -1,4 +1,4 @@
-use Rattle.std.proofs.Common.{◌≡◌, ℕ, map, take, slice_index}
+use Rattle.std.proofs.Common.{◌≡◌, map, take, slice_index}
 use Rattle.arc_pairing.proofs.gluing.places_of_mates.Given as goal
 
 abbrev pub invariant-loop-slot : goal.invariant-loop-slot

@@ -1,4 +1,4 @@
-use Rattle.std.proofs.Common.{◌≡◌, ℕ, ◌<◌, ◌∙◌, length, slice_index, sym, ap, subst, arith}
+use Rattle.std.proofs.Common.{◌<◌, ◌∙◌, slice_index, arith}
 use Rattle.std.proofs.Math.ListN.{length-set}
 use Rattle.arc_pairing.proofs.SeamLists.{placed_more}
 use Rattle.arc_pairing.proofs.seam.places_of.Goals as goal

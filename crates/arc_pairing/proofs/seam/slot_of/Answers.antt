@@ -1,4 +1,4 @@
-use Rattle.std.proofs.Common.{◌≡◌, ℕ, ◌<◌, ◌≤◌, length, slice_index, sym, arith}
+use Rattle.std.proofs.Common.{length, arith}
 use Rattle.arc_pairing.proofs.SeamLists.{first_slot}
 use Rattle.arc_pairing.proofs.seam.slot_of.Goals as goal
 

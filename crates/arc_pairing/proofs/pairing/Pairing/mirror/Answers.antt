@@ -1,5 +1,5 @@
-use Rattle.std.proofs.Common.{◌≡◌, ℕ, ◌≤◌, List, length, sym, ap, ◌∙◌, subst, arith}
-use Rattle.arc_pairing.specs.Pairings.{IsShortPairing, mirrored}
+use Rattle.std.proofs.Common.{sym, subst, arith}
+use Rattle.arc_pairing.specs.Pairings.{IsShortPairing}
 use Rattle.arc_pairing.proofs.Mirrors.{IsShortPairing-mirrored, mirrored_whole}
 use Rattle.arc_pairing.proofs.pairing.Pairing.mirror.Goals as goal
 

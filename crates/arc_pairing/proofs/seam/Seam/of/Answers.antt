@@ -1,4 +1,4 @@
-use Rattle.std.proofs.Common.{◌≡◌, ℕ, ◌<◌, ◌≤◌, ◌++◌, ◌∙◌, List, length, map, slice_index, subst, sym, ap, arith, length-append}
+use Rattle.std.proofs.Common.{◌≡◌, ℕ, ◌<◌, ◌++◌, ◌∙◌, List, length, map, slice_index, subst, ap, arith, length-append}
 use Rattle.arc_gluing.specs.Pairings.{AreOpen}
 use Rattle.arc_gluing.specs.Seams.{place_in}
 use Rattle.arc_pairing.proofs.SeamLists.{small_slots, distinct_slots, made_seam}
