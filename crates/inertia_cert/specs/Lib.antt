@@ -1,0 +1,2 @@
+pub mod SymmetricMatrices
+pub mod Values

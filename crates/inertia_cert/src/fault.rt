@@ -1,0 +1,26 @@
+//! Why entries are no matrix.
+
+use std::alloc::{AllocError, AllocFailed};
+
+/// Why entries are no symmetric matrix.
+#[derive(Clone, Copy, Debug, PartialEq, Eq)]
+pub enum MatrixFault {
+    /// There are `given` entries and not `wanted`, which is size times size.
+    Size { given: usize, wanted: usize },
+    /// The entry at this place isn't the one with row and column exchanged. It is the first such place
+    /// by rows, counted from 0: row 0 and column 1 for the rows 0, 1 and 2, 0.
+    NotSymmetric { row: u32, column: u32 },
+    /// Memory ran out.
+    Memory,
+}
+
+impl From<AllocError> for MatrixFault {
+    ghost use Rattle.std.specs.Prelude.{◌≡◌};
+    ghost use Rattle.inertia_cert.specs.declared.fault.MatrixFault.TheVariants.{Memory};
+
+    ghost from_gives = { λ _ fault. fault ≡ Memory };
+
+    fn from(_error: AllocError) -> MatrixFault {
+        MatrixFault::Memory
+    }
+}

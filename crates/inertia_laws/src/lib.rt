@@ -1,0 +1,2 @@
+// Inertia of symmetric matrices: certificates, the elimination that gives one, and Sylvester's law. Definitions and laws, no code.
+#![tactic(auto)]
