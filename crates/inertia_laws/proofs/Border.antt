@@ -3,15 +3,12 @@ use Rattle.std.proofs.Common.{◌≡◌, ℕ, suc, ◌+◌, ◌<◌, ◌≢◌, 
 use Rattle.std.proofs.lemmas.Bool.{eqb-true, eqb-false, ne_eqb, eq-eqb}
 use Rattle.ring_identities.proofs.Integers.{times_zero, zero_times, times_one, one_times, zero_plus, plus_zero}
 use Rattle.inertia_laws.specs.Matrices.{total, count, single, product, transpose, is_zero, is_positive, is_negative}
+use Rattle.inertia_laws.specs.Certificates.{bordered}
 use Rattle.inertia_laws.specs.Inertia.{Diagonalises, positive_count, negative_count, zero_count}
 use Rattle.inertia_laws.proofs.Totals.{total_agree, total_none}
 use Rattle.inertia_laws.proofs.Signs.{positive_times, positive_times_negative, zero_of_times}
 use Rattle.inertia_laws.proofs.Values.{not_zero}
 use Rattle.inertia_laws.proofs.Sylvester.{sylvester, single_other, count_agree}
-
--- a below n in both places, e at n in both, and 0 elsewhere
-abbrev pub bordered : ℕ → ℤ → (ℕ → ℕ → ℤ) → ℕ → ℕ → ℤ
-bordered n e a i j = cond (eqb i n) (cond (eqb j n) e (pos 0)) (cond (eqb j n) (pos 0) (a i j))
 
 abbrev pub longer : ℕ → ℤ → (ℕ → ℤ) → ℕ → ℤ
 longer n e d i = cond (eqb i n) e (d i)

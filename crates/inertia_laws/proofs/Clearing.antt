@@ -5,11 +5,11 @@ use Rattle.ring_identities.proofs.Integers.{times_comm}
 use Rattle.inertia_laws.specs.Matrices.{count, product, is_zero, is_positive, is_negative}
 use Rattle.inertia_laws.specs.Fractions.{Fraction}
 use Rattle.inertia_laws.specs.Inertia.{Diagonalises}
-use Rattle.inertia_laws.specs.Elimination.{IsCertificate}
+use Rattle.inertia_laws.specs.Certificates.{IsCertificate, positives, negatives, zeros, bordered}
 use Rattle.inertia_laws.proofs.Values.{Means, Means-whole, Means-scaled, Means-eq, Means-multiply, Means-total, same_value, both_positive, not_zero, zero_by_value, positive_by_value, negative_by_value}
 use Rattle.inertia_laws.proofs.Moves.{single_flip}
 use Rattle.inertia_laws.proofs.Sylvester.{sylvester, count_agree}
-use Rattle.inertia_laws.proofs.Border.{bordered, border_counts}
+use Rattle.inertia_laws.proofs.Border.{border_counts}
 use Rattle.inertia_laws.proofs.Eliminated.{unit_over, diagonal_over}
 
 -- whole numbers over one denominator
@@ -115,15 +115,6 @@ clear_denominators n l p q diagonal h =
             ∙ single_flip j (square *ℤ z.a i) i;
       };
     }
-
-abbrev pub positives : ℕ → (ℕ → Fraction) → ℕ
-positives n d = count n (λ i. is_positive (d i).num)
-
-abbrev pub negatives : ℕ → (ℕ → Fraction) → ℕ
-negatives n d = count n (λ i. is_negative (d i).num)
-
-abbrev pub zeros : ℕ → (ℕ → Fraction) → ℕ
-zeros n d = count n (λ i. is_zero (d i).num)
 
 -- Sylvester's law
 pub same_inertia : (n : ℕ) (l : ℕ → ℕ → ℤ) (p q : ℕ → ℕ → Fraction) (d : ℕ → Fraction) (p' q' : ℕ → ℕ → Fraction) (d' : ℕ → Fraction) →

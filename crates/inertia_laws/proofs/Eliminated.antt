@@ -6,7 +6,8 @@ use Rattle.ring_identities.proofs.Identities.{reads, by_ring}
 use Rattle.ring_identities.proofs.Integers.{times_zero, times_comm}
 use Rattle.inertia_laws.specs.Matrices.{product, is_zero, is_positive}
 use Rattle.inertia_laws.specs.Fractions.{Fraction, whole}
-use Rattle.inertia_laws.specs.Elimination.{State, IsCertificate, start, exchanged, exchange, add_place, clear, first_from, or_added, or_exchanged, prepared, step, steps, eliminated}
+use Rattle.inertia_laws.specs.Certificates.{IsCertificate}
+use Rattle.inertia_laws.specs.Elimination.{State, start, exchanged, exchange, add_place, clear, first_from, or_added, or_exchanged, prepared, step, steps, eliminated}
 use Rattle.inertia_laws.proofs.Signs.{is_zero_means, zero_of_times}
 use Rattle.inertia_laws.proofs.Sylvester.{single_at}
 use Rattle.inertia_laws.proofs.Values.{Means, Means-whole, Means-scaled, Means-eq, Means-multiply, Means-zero, Means-total, zero_by_value, equal_by_value, both_positive}

@@ -5,21 +5,9 @@ use Rattle.std.proofs.lemmas.List.{length-map}
 use Rattle.ring_identities.proofs.Identities.{reads, by_ring}
 use Rattle.ring_identities.proofs.Integers.{times_zero}
 use Rattle.inertia_laws.specs.Matrices.{is_zero, dot, single}
+use Rattle.inertia_laws.specs.Equations.{Solves, Solution}
 use Rattle.inertia_laws.proofs.Totals.{total_agree, total_none, total_plus, total_times}
 use Rattle.inertia_laws.proofs.Signs.{is_zero_means, zero_of_times}
-
--- x meets each equation
-abbrev pub Solves : ℕ → (ℕ → ℤ) → List (ℕ → ℤ) → Type 0
-Solves n x [] = Unit {0}
-Solves n x (row ∷ rows) = (dot n row x ≡ pos 0) × Solves n x rows
-
--- a solution other than zero
-pub record Solution (n : ℕ) (rows : List (ℕ → ℤ)) : Type 0 where
-  pub x : ℕ → ℤ
-  pub place : ℕ
-  pub within : place < n
-  pub not_zero : is_zero (x place) ≡ false
-  pub solves : Solves n x rows
 
 -- rest is the list without the equation at one of its places
 data Takes : List (ℕ → ℤ) → (ℕ → ℤ) → List (ℕ → ℤ) → Type 0 where

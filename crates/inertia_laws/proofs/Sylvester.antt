@@ -9,7 +9,8 @@ use Rattle.inertia_laws.specs.Matrices.{total, count, is_positive, is_negative, 
 use Rattle.inertia_laws.specs.Inertia.{Diagonalises, positive_count, negative_count, zero_count}
 use Rattle.inertia_laws.proofs.Totals.{total_agree, total_none, total_times, total_single, apply_product, dot_apply}
 use Rattle.inertia_laws.proofs.Signs.{is_zero_means, zero_of_times, positive_times, square_positive, total_not_positive, total_positive, positive_times_negative}
-use Rattle.inertia_laws.proofs.Equations.{Solves, Solution, solve}
+use Rattle.inertia_laws.specs.Equations.{Solves, Solution}
+use Rattle.inertia_laws.proofs.Equations.{solve}
 
 pub single_at : (i : ℕ) (c : ℤ) → single i c i ≡ c
 single_at i c = ap (λ b. cond b c (pos 0)) (eq-eqb i i refl)

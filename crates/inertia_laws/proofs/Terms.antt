@@ -3,8 +3,8 @@ use Rattle.std.proofs.Common.{◌≡◌, ℕ, zero, suc, ◌*◌, ◌/◌, ◌<�
 use Rattle.std.proofs.Math.Nat.{div-mul_cancel, dvd_of_mul-dvd-mul_right, mul-dvd-mul_right, one-dvd}
 use Rattle.std.specs.Int.{IsGcd, ◌∣◌}
 use Rattle.inertia_laws.specs.Matrices.{is_positive}
-use Rattle.inertia_laws.specs.Fractions.{Fraction, gcd, quotient, reduce}
-use Rattle.inertia_laws.proofs.Values.{gcd_is}
+use Rattle.inertia_laws.specs.Fractions.{Fraction, AreEqual, gcd, quotient, reduce}
+use Rattle.inertia_laws.proofs.Values.{gcd_is, Means, Means-reduce, equal_by_value}
 
 factor_positive : (q g b : ℕ) → q * g ≡ b → 0 < b → 0 < g
 factor_positive q zero b e h = omega arith
@@ -42,3 +42,8 @@ lowest_terms x e =
     let g : ℕ = gcd (unsigned_abs x.num) (unsigned_abs x.den) in
     subst (λ u. IsGcd u (unsigned_abs (quotient x.den g)) 1) (sym (quotient_size x.num g))
     (subst (λ v. IsGcd (unsigned_abs x.num / g) v 1) (sym (quotient_size x.den g)) (divided_gcd (unsigned_abs x.num) (unsigned_abs x.den) (abs_positive x.den e)))
+
+pub lowest_terms_law : (x : Fraction) → is_positive x.den ≡ true → IsGcd (unsigned_abs (reduce x).num) (unsigned_abs (reduce x).den) 1 × AreEqual (reduce x) x
+lowest_terms_law x e =
+    let self : Means x x.num x.den = record { den_positive = e; over_positive = e; is = refl } in
+    (lowest_terms x e, equal_by_value (Means-reduce self) self)

@@ -1,15 +1,30 @@
--- The elimination that gives a certificate of inertia, over fractions of any size.
-use Rattle.std.specs.Prelude.{◌≡◌, ℕ, zero, suc, ◌-◌, ◌<◌, Bool, true, not, ◌&&◌, ◌==◌, nat_lt, if◌then◌else◌, ℤ, pos, Option, Some, None}
-use Rattle.inertia_laws.specs.Matrices.{is_zero, is_positive}
-use Rattle.inertia_laws.specs.Fractions.{Fraction, whole, AreEqual, multiply, plus, minus, times, ratio, total_fraction}
+-- The elimination that gives a certificate of inertia, over fractions of any size. (This project's own.) M starts as the
+-- matrix, P and Q as the identity. Step k, from 0, makes row k and column k of M zero outside the diagonal:
+--
+--     1. Where M_kk is 0 and a later diagonal entry isn't, the first such place is exchanged with k.
+--     2. Else, where M_kk is 0 and a later entry of row k isn't, place j of the first such is added to place k.
+--     3. Where M_kk is still 0, the step ends.
+--     4. Else, with rho_j = M_kj / M_kk, rho_j times place k is taken from each later place j.
+--
+-- P takes each move of columns, Q the opposite move of rows, so that P Q stays the identity and M stays P-transposed
+-- times the matrix times P. Every sum, product and quotient is reduced.
+--
+--     State                       M, P and Q
+--     start l                     the state at the beginning
+--     exchange k j, add_place k j, clear n k    the moves of parts 1, 2 and 4
+--     first_from count i test     the least of so many places from i on that passes
+--     prepared n k, step n k      parts 1 and 2, and the whole step
+--     steps n k, eliminated n l   the first k steps, and the state at the end
+use Rattle.std.specs.Prelude.{◌≡◌, ℕ, zero, suc, ◌-◌, Bool, not, ◌&&◌, ◌==◌, nat_lt, if◌then◌else◌, ℤ, pos, Option, Some, None}
+use Rattle.inertia_laws.specs.Matrices.{is_zero}
+use Rattle.inertia_laws.specs.Fractions.{Fraction, whole, plus, minus, times, ratio}
+use Rattle.inertia_laws.specs.Certificates.{identity}
 
+-- the matrix as it stands, and the two that come with it
 pub record State : Type 0 where
   pub m : ℕ → ℕ → Fraction
   pub p : ℕ → ℕ → Fraction
   pub q : ℕ → ℕ → Fraction
-
-abbrev pub identity : ℕ → ℕ → Fraction
-identity i j = if i == j then whole (pos 1) else whole (pos 0)
 
 abbrev pub start : (ℕ → ℕ → ℤ) → State
 start l = record { m = λ i j. whole (l i j); p = identity; q = identity }
@@ -99,12 +114,3 @@ steps n (suc k) s = step n k (steps n k s)
 
 abbrev pub eliminated : ℕ → (ℕ → ℕ → ℤ) → State
 eliminated n l = steps n n (start l)
-
--- P Q is the identity, and P-transposed times L times P is the diagonal
-pub record IsCertificate (n : ℕ) (l : ℕ → ℕ → ℤ) (p q : ℕ → ℕ → Fraction) (diagonal : ℕ → Fraction) : Type 0 where
-  pub positive_p : (i j : ℕ) → i < n → j < n → is_positive (p i j).den ≡ true
-  pub positive_q : (i j : ℕ) → i < n → j < n → is_positive (q i j).den ≡ true
-  pub positive_diagonal : (i : ℕ) → i < n → is_positive (diagonal i).den ≡ true
-  pub inverse : (i j : ℕ) → i < n → j < n → AreEqual (total_fraction n (λ k. multiply (p i k) (q k j))) (identity i j)
-  pub congruence : (i j : ℕ) → i < n → j < n →
-      AreEqual (total_fraction n (λ a. multiply (p a i) (total_fraction n (λ b. multiply (whole (l a b)) (p b j))))) (if i == j then diagonal i else whole (pos 0))
