@@ -1,2 +1,3 @@
 pub mod SymmetricMatrices
 pub mod Values
+pub mod Grids

@@ -1,4 +1,4 @@
-//! Why entries are no matrix.
+//! Why entries are no matrix, and where an elimination stops.
 
 use std::alloc::{AllocError, AllocFailed};
 
@@ -22,5 +22,36 @@ impl From<AllocError> for MatrixFault {
 
     fn from(_error: AllocError) -> MatrixFault {
         MatrixFault::Memory
+    }
+}
+
+/// Why entries could not be formed.
+#[derive(Clone, Copy, Debug, PartialEq, Eq)]
+pub(crate) enum FormFault {
+    /// A number that they form is past 2^127 - 1 in size.
+    OutOfBits,
+    /// Memory ran out.
+    Memory,
+}
+
+impl From<AllocError> for FormFault {
+    ghost use Rattle.std.specs.Prelude.{◌≡◌};
+    ghost use Rattle.inertia_cert.specs.declared.fault.FormFault.TheVariants.{Memory};
+
+    ghost from_gives = { λ _ fault. fault ≡ Memory };
+
+    fn from(_error: AllocError) -> FormFault {
+        FormFault::Memory
+    }
+}
+
+impl<T: Drop> From<AllocFailed<T>> for FormFault {
+    ghost use Rattle.std.specs.Prelude.{◌≡◌};
+    ghost use Rattle.inertia_cert.specs.declared.fault.FormFault.TheVariants.{Memory};
+
+    ghost from_gives = { λ _ fault. fault ≡ Memory };
+
+    fn from(_error: AllocFailed<T>) -> FormFault {
+        FormFault::Memory
     }
 }

@@ -5,7 +5,10 @@
 mod arithmetic;
 mod fault;
 mod fraction;
+mod grid;
 mod matrix;
+mod rules;
+mod tabulate;
 
 pub use fault::MatrixFault;
 pub use fraction::Fraction;

@@ -4,7 +4,7 @@ use Rattle.std.proofs.Common.{◌≡◌, ℕ, zero, suc, ◌+◌, ◌-◌, ◌<�
 use Rattle.inertia_laws.specs.Matrices.{is_zero}
 use Rattle.inertia_laws.specs.Fractions.{Fraction, plus, minus, times, ratio}
 use Rattle.inertia_laws.specs.Elimination.{State, exchanged, exchange, add_column, add_row, take_row, add_place, is_met, is_cleared, clear_matrix, clear_columns, gathered, clear, first_from, or_added, or_exchanged, prepared, finished, step}
-use Rattle.inertia_laws.specs.Range.{every, every_place, add_column_fits, add_row_fits, take_row_fits, add_place_fits, ratio_fits, clear_matrix_fits, clear_columns_fits, gather_place_fits, gather_fits, clear_fits, added_fits, exchanged_fits, prepared_fits, finished_fits, step_fits}
+use Rattle.inertia_laws.specs.Range.{every, every_place, add_column_fits, add_row_fits, take_row_fits, add_place_fits, clear_matrix_fits, clear_columns_fits, gather_place_fits, gather_fits, clear_fits, added_fits, exchanged_fits, prepared_fits, finished_fits, step_fits}
 use Rattle.inertia_laws.proofs.Moves.{exchanged_below}
 
 -- the same entries below n
@@ -50,12 +50,6 @@ module _ (n k : ℕ) (hk : k < n) (x y : ℕ → ℕ → Fraction) (h : Agree n 
 
   met-agree : (i : ℕ) → i < n → is_met k x i ≡ is_met k y i
   met-agree i hi = ap (λ u. ltb k i && not (is_zero u.num)) (h i k hi hk)
-
-  pub ratio_fits-agree : (j : ℕ) → j < n → ratio_fits k x j ≡ ratio_fits k y j
-  ratio_fits-agree j hj =
-      let row = h k j hk hj in
-      let pivot = h k k hk hk in
-      cc
 
   pub clear_matrix-agree : Agree n (clear_matrix k x) (clear_matrix k y)
   clear_matrix-agree i j hi hj =
@@ -188,11 +182,10 @@ module _ (n k : ℕ) (hk : k < n) (s t : State) (h : AgreeAll n s t) where
 
   clear_fits-agree : clear_fits n k s ≡ clear_fits n k t
   clear_fits-agree =
-      let ratios = every-agree n _ _ (ratio_fits-agree n k hk s.m t.m h.m) in
       let entries = every_place-agree n _ _ (clear_matrix_fits-agree n k hk s.m t.m h.m) in
       let columns = every_place-agree n _ _ (clear_columns_fits-agree n k hk s.m t.m h.m s.p t.p h.p) in
       let rows = every_place-agree n _ _ (gather_fits-agree n k hk s.m t.m h.m s.q t.q h.q) in
-      ap₂ (λ u v. u && v) (ap₂ (λ u v. u && v) (ap₂ (λ u v. u && v) ratios entries) columns) rows
+      ap₂ (λ u v. u && v) (ap₂ (λ u v. u && v) entries columns) rows
 
   zero-agree : is_zero (s.m k k).num ≡ is_zero (t.m k k).num
   zero-agree = ap (λ x. is_zero x.num) (h.m k k hk hk)

@@ -59,33 +59,32 @@ add_place_fits n k j s =
     && every_place n (add_column_fits k j s.p)
     && every_place n (take_row_fits k j s.q)
 
--- ---- part 4: the quotients rho, the entries of M and of P, and row k of Q
-abbrev pub ratio_fits : ℕ → (ℕ → ℕ → Fraction) → ℕ → Bool
-ratio_fits k m j = not (is_cleared k m j) || divide_fits (m k j) (m k k)
-
+-- ---- part 4: the entries of M, those of P, and row k of Q, each with the quotients rho that it takes
 abbrev pub clear_matrix_fits : ℕ → (ℕ → ℕ → Fraction) → ℕ → ℕ → Bool
 clear_matrix_fits k m a b =
     not (is_cleared k m b && is_met k m a)
-    || (multiply_fits (m a k) (ratio (m k b) (m k k)) && subtract_fits (m a b) (times (m a k) (ratio (m k b) (m k k))))
+    || (divide_fits (m k b) (m k k)
+    && (multiply_fits (m a k) (ratio (m k b) (m k k)) && subtract_fits (m a b) (times (m a k) (ratio (m k b) (m k k)))))
 
 abbrev pub clear_columns_fits : ℕ → (ℕ → ℕ → Fraction) → (ℕ → ℕ → Fraction) → ℕ → ℕ → Bool
 clear_columns_fits k m p a b =
     not (is_cleared k m b)
-    || (multiply_fits (ratio (m k b) (m k k)) (p a k) && subtract_fits (p a b) (times (ratio (m k b) (m k k)) (p a k)))
+    || (divide_fits (m k b) (m k k)
+    && (multiply_fits (ratio (m k b) (m k k)) (p a k) && subtract_fits (p a b) (times (ratio (m k b) (m k k)) (p a k))))
 
--- the row of Q with the place n added, and with all places below n
+-- the row of Q with the place j added, and with all places below n
 abbrev pub gather_place_fits : ℕ → (ℕ → ℕ → Fraction) → (ℕ → ℕ → Fraction) → ℕ → ℕ → Bool
-gather_place_fits k m q b n =
-    not (is_cleared k m n)
-    || (multiply_fits (ratio (m k n) (m k k)) (q n b) && add_fits (gathered k m q b n) (times (ratio (m k n) (m k k)) (q n b)))
+gather_place_fits k m q b j =
+    not (is_cleared k m j)
+    || (divide_fits (m k j) (m k k)
+    && (multiply_fits (ratio (m k j) (m k k)) (q j b) && add_fits (gathered k m q b j) (times (ratio (m k j) (m k k)) (q j b))))
 
 abbrev pub gather_fits : ℕ → ℕ → (ℕ → ℕ → Fraction) → (ℕ → ℕ → Fraction) → ℕ → ℕ → Bool
 gather_fits n k m q a b = not (a == k) || every n (gather_place_fits k m q b)
 
 abbrev pub clear_fits : ℕ → ℕ → State → Bool
 clear_fits n k s =
-    every n (ratio_fits k s.m)
-    && every_place n (clear_matrix_fits k s.m)
+    every_place n (clear_matrix_fits k s.m)
     && every_place n (clear_columns_fits k s.m s.p)
     && every_place n (gather_fits n k s.m s.q)
 
