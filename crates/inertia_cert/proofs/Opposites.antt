@@ -1,5 +1,5 @@
 -- Differences and quotients as sums and products: with the fraction of the other sign, and with one over the fraction.
-use Rattle.std.proofs.Common.{◌≡◌, ℕ, zero, suc, ◌^◌, nat_lt, ◌&&◌, ℤ, pos, negsuc, ◌+ℤ◌, ◌-ℤ◌, ◌*ℤ◌, neg_ℤ, true, false, cond, unsigned_abs, FitsSigned, IsTrue, ◌<ℤ◌, ◌≤ℤ◌, arith, refl, ap, ap₂, ◌∙◌}
+use Rattle.std.proofs.Common.{◌≡◌, ℕ, zero, suc, ◌^◌, nat_lt, ◌&&◌, ℤ, pos, negsuc, ◌+ℤ◌, ◌-ℤ◌, ◌*ℤ◌, neg_ℤ, true, false, not, cond, unsigned_abs, FitsSigned, IsTrue, ◌<ℤ◌, ◌≤ℤ◌, arith, refl, ap, ap₂, ◌∙◌}
 use Rattle.std.proofs.lemmas.Int.{ints}
 use Rattle.std.specs.Int.{w128}
 use Rattle.std.proofs.lemmas.Nat.Gcd.{IsGcd-swap, same_from_IsGcd}
@@ -66,3 +66,12 @@ positive_of (negsuc n) h e = absurd (omega (arith, ints))
 
 pub positive_fits : (z : ℤ) → is_positive z ≡ true → FitsSigned w128 z → IsTrue (fits z)
 positive_fits z e h = means_fits z (positive_below z e h)
+
+pub gcd_one : (a : ℕ) → gcd a 1 ≡ 1
+unfolding gcd
+gcd_one a = refl
+
+pub not_zero_test : (z : ℤ) → (z ≡ pos 0 → ⊥) → not (is_zero z) ≡ true
+not_zero_test (pos zero) h = absurd (h refl)
+not_zero_test (pos (suc n)) h = refl
+not_zero_test (negsuc n) h = refl

@@ -1,7 +1,6 @@
 -- Square tables of fractions, as the functions of a row and a column that they stand for.
 --
 --     at grid i j            the fraction in row i and column j, from 0
---     Agree n x y            the same entries in the places below n
 --     listed n f             f 0, .., f (n - 1)
 --     tabulated n rows f     so many rows of n entries f i j, one after the other
 --     CausedBy fault fit     memory ran out, or a number doesn't fit
@@ -21,10 +20,6 @@ values entries = map value entries
 -- the fraction in row i and column j
 abbrev pub at : Grid → ℕ → ℕ → logic.Fraction
 at grid i j = slice_index_or (values grid.entries.items) (i * grid.size + j) (whole (pos 0))
-
--- the same entries in the places below n
-abbrev pub Agree : ℕ → (ℕ → ℕ → logic.Fraction) → (ℕ → ℕ → logic.Fraction) → Type 0
-Agree n x y = (i j : ℕ) → i < n → j < n → x i j ≡ y i j
 
 -- f 0, .., f (n - 1)
 abbrev pub listed : ℕ → (ℕ → logic.Fraction) → List logic.Fraction

@@ -3,10 +3,21 @@
 ghost use Rattle.std.specs.Prelude.{◌≡◌, ℤ, ◌+ℤ◌, ◌-ℤ◌, ◌*ℤ◌, neg_ℤ, unsigned_abs, IsTrue, SomeIff, true, false, MatchOption};
 ghost use Rattle.inertia_laws.specs.Matrices.{is_positive, is_zero};
 ghost use Rattle.inertia_laws.specs.Range.{fits, add_fits, subtract_fits, multiply_fits, divide_fits};
-ghost use Rattle.inertia_laws.specs.Fractions.{gcd, reduce, plus, minus, times, ratio};
+ghost use Rattle.inertia_laws.specs.Fractions.{whole, gcd, reduce, plus, minus, times, ratio};
 ghost use Rattle.inertia_cert.specs.Values.{value, opposite, reciprocal, crossed_fits, FormsAs};
 
 use crate::fraction::Fraction;
+
+/// The whole number as a fraction.
+pub(crate) fn whole(number: i128) -> Fraction
+    requires { IsTrue (fits number) }
+    ensures { value result ≡ whole number }
+{
+    Fraction {
+        num: number,
+        den: 1,
+    }
+}
 
 /// The number, unless it is the one of size 2^127.
 fn kept(z: i128) -> Option<i128>

@@ -25,6 +25,15 @@ impl From<AllocError> for MatrixFault {
     }
 }
 
+/// Why no certificate of inertia was made.
+#[derive(Clone, Copy, Debug, PartialEq, Eq)]
+pub enum InertiaFault {
+    /// The elimination forms a number past 2^127 - 1 in size, first in this step, counted from 1.
+    Range { step: u32 },
+    /// Memory ran out.
+    Memory,
+}
+
 /// Why entries could not be formed.
 #[derive(Clone, Copy, Debug, PartialEq, Eq)]
 pub(crate) enum FormFault {

@@ -3,13 +3,21 @@
 #![tactic(auto)]
 
 mod arithmetic;
+mod certificate;
+mod clearing;
+mod elimination;
 mod fault;
 mod fraction;
 mod grid;
 mod matrix;
+mod parts;
+mod places;
 mod rules;
+mod starting;
+mod steps;
 mod tabulate;
 
-pub use fault::MatrixFault;
+pub use certificate::{Certificate, Counts};
+pub use fault::{InertiaFault, MatrixFault};
 pub use fraction::Fraction;
 pub use matrix::Matrix;

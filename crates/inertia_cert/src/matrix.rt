@@ -1,6 +1,7 @@
 //! Symmetric matrices.
 
-ghost use Rattle.std.specs.Prelude.{◌≡◌, ◌≢◌, ◌*◌, ◌<◌, ◌≤◌, ◌↔◌, ℕ, length, IfOk, OnOk, MatchOption};
+ghost use Rattle.std.specs.Prelude.{◌≡◌, ◌≢◌, ◌*◌, ◌<◌, ◌≤◌, ◌↔◌, ℕ, length, IfOk, OnOk, IsTrue, MatchOption};
+ghost use Rattle.inertia_laws.specs.Range.{fits};
 ghost use Rattle.inertia_cert.specs.SymmetricMatrices.{square, entry, AllFit, IsEqualAcross, IsRowEqual, AreRowsEqual, IsSymmetricMatrix, IsFirstUnequal};
 
 use crate::fault::MatrixFault;
@@ -104,7 +105,8 @@ impl Matrix {
     pub fn entry(&self, row: u32, column: u32) -> i128
         requires row { row < self.now.size }
         requires column { column < self.now.size }
-        ensures { result ≡ entry self.now row column }
+        ensures value { result ≡ entry self.now row column }
+        ensures within { IsTrue (fits result) }
     {
         self.entries[row as usize * self.size as usize + column as usize]
     }

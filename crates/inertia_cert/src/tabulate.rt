@@ -3,8 +3,9 @@
 ghost use Rattle.std.specs.Prelude.{◌≡◌, ℕ, ◌<◌, ◌≤◌, ◌++◌, Bool, true, IfOk, OnOk, IfErr};
 ghost use Rattle.inertia_laws.specs.Fractions as logic;
 ghost use Rattle.inertia_laws.specs.Range.{every, every_place};
+ghost use Rattle.inertia_laws.specs.Agreement.{Agree};
 ghost use Rattle.inertia_cert.specs.Values.{value, FormsAs};
-ghost use Rattle.inertia_cert.specs.Grids.{at, values, Agree, listed, CausedBy};
+ghost use Rattle.inertia_cert.specs.Grids.{at, values, listed, CausedBy};
 
 use crate::fault::FormFault;
 use crate::fraction::Fraction;

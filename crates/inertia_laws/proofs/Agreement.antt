@@ -5,17 +5,8 @@ use Rattle.inertia_laws.specs.Matrices.{is_zero}
 use Rattle.inertia_laws.specs.Fractions.{Fraction, plus, minus, times, ratio}
 use Rattle.inertia_laws.specs.Elimination.{State, exchanged, exchange, add_column, add_row, take_row, add_place, is_met, is_cleared, clear_matrix, clear_columns, gathered, clear, first_from, or_added, or_exchanged, prepared, finished, step}
 use Rattle.inertia_laws.specs.Range.{every, every_place, add_column_fits, add_row_fits, take_row_fits, add_place_fits, clear_matrix_fits, clear_columns_fits, gather_place_fits, gather_fits, clear_fits, added_fits, exchanged_fits, prepared_fits, finished_fits, step_fits}
+use Rattle.inertia_laws.specs.Agreement.{Agree, AgreeAll}
 use Rattle.inertia_laws.proofs.Moves.{exchanged_below}
-
--- the same entries below n
-abbrev pub Agree : ℕ → (ℕ → ℕ → Fraction) → (ℕ → ℕ → Fraction) → Type 0
-Agree n x y = (i j : ℕ) → i < n → j < n → x i j ≡ y i j
-
--- the same M, P and Q below n
-pub record AgreeAll (n : ℕ) (s t : State) : Type 0 where
-  pub m : Agree n s.m t.m
-  pub p : Agree n s.p t.p
-  pub q : Agree n s.q t.q
 
 -- a place that was found is below n
 abbrev pub IsBelow : ℕ → Option ℕ → Type 0
@@ -251,3 +242,6 @@ AgreeAll-trans h g = record {
   p = λ i j hi hj. h.p i j hi hj ∙ g.p i j hi hj;
   q = λ i j hi hj. h.q i j hi hj ∙ g.q i j hi hj;
 }
+
+pub AgreeAll-refl : {n : ℕ} {s : State} → AgreeAll n s s
+AgreeAll-refl = record { m = λ i j hi hj. refl; p = λ i j hi hj. refl; q = λ i j hi hj. refl }
