@@ -1,3 +1,4 @@
 pub mod Bounds
 pub mod Opposites
 pub mod Tables
+pub mod Stages

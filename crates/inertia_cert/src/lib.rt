@@ -17,7 +17,7 @@ mod starting;
 mod steps;
 mod tabulate;
 
-pub use certificate::{Certificate, Counts};
+pub use certificate::{Certificate, Counts, inertia};
 pub use fault::{InertiaFault, MatrixFault};
 pub use fraction::Fraction;
 pub use matrix::Matrix;
