@@ -2,3 +2,4 @@ pub mod Bounds
 pub mod Opposites
 pub mod Tables
 pub mod Stages
+pub mod SumSteps

@@ -3,8 +3,9 @@
 --     at grid i j            the fraction in row i and column j, from 0
 --     listed n f             f 0, .., f (n - 1)
 --     tabulated n rows f     so many rows of n entries f i j, one after the other
+--     Decides answer fit P   the answer says whether P holds, and there is none where a number doesn't fit
 --     CausedBy fault fit     memory ran out, or a number doesn't fit
-use Rattle.std.specs.Prelude.{◌≡◌, ℕ, zero, suc, ◌+◌, ◌*◌, ◌<◌, Bool, false, pos, List, [], ◌∷◌, ◌++◌, map, slice_index_or}
+use Rattle.std.specs.Prelude.{◌≡◌, ℕ, zero, suc, ◌+◌, ◌*◌, ◌↔◌, Bool, true, false, IsTrue, Option, MatchOption, pos, List, [], ◌∷◌, ◌++◌, map, slice_index_or}
 use Rattle.inertia_laws.specs.Fractions as logic
 use Rattle.inertia_laws.specs.Fractions.{whole}
 use Rattle.inertia_cert.specs.declared.fraction.Fraction.{Fraction}
@@ -35,3 +36,7 @@ tabulated n (suc row) f = tabulated n row f ++ listed n (f row)
 abbrev pub CausedBy : FormFault → Bool → Type 0
 CausedBy Memory fit = Unit {0}
 CausedBy OutOfBits fit = fit ≡ false
+
+-- the answer says whether P holds, and there is none where a number doesn't fit
+abbrev pub Decides : Option Bool → Bool → Type 0 → Type 0
+Decides answer fit P = MatchOption answer (fit ≡ false) (λ b. (fit ≡ true) × (IsTrue b ↔ P))

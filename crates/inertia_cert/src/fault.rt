@@ -34,6 +34,10 @@ pub enum InertiaFault {
     Memory,
 }
 
+/// A number that a check forms is past 2^127 - 1 in size.
+#[derive(Clone, Copy, Debug, PartialEq, Eq)]
+pub struct OutOfBits;
+
 /// Why entries could not be formed.
 #[derive(Clone, Copy, Debug, PartialEq, Eq)]
 pub(crate) enum FormFault {

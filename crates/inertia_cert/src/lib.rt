@@ -3,7 +3,9 @@
 #![tactic(auto)]
 
 mod arithmetic;
+mod agreement;
 mod certificate;
+mod checking;
 mod clearing;
 mod elimination;
 mod fault;
@@ -12,12 +14,16 @@ mod grid;
 mod matrix;
 mod parts;
 mod places;
+mod products;
 mod rules;
 mod starting;
 mod steps;
+mod sums;
 mod tabulate;
 
+pub use checking::check;
 pub use certificate::{Certificate, Counts, inertia};
-pub use fault::{InertiaFault, MatrixFault};
+
+pub use fault::{InertiaFault, MatrixFault, OutOfBits};
 pub use fraction::Fraction;
 pub use matrix::Matrix;

@@ -40,8 +40,8 @@ impl Rule for WholeEntries<'_> {
 
 /// The entries of the identity.
 #[derive(Drop)]
-struct Identity {
-    size: usize,
+pub(crate) struct Identity {
+    pub(crate) size: usize,
 }
 
 impl Rule for Identity {
