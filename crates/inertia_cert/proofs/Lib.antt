@@ -3,3 +3,5 @@ pub mod Opposites
 pub mod Tables
 pub mod Stages
 pub mod SumSteps
+pub mod GridEntries
+pub mod Verdict

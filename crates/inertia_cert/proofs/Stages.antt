@@ -1,6 +1,6 @@
 -- A step of a program's elimination is the definition's: its two halves follow each other, and the tables of the first need
 -- only agree with the definition's below n.
-use Rattle.std.proofs.Common.{◌≡◌, ℕ, zero, suc, ◌<◌, ℤ, Bool, true, false, ◌&&◌, refl, sym, subst, ap, ap₂, ◌∙◌, arith}
+use Rattle.std.proofs.Common.{◌≡◌, ℕ, zero, suc, ◌<◌, ℤ, Bool, true, false, ◌&&◌, refl, sym, subst, ap, ap₂, ◌∙◌}
 use Rattle.inertia_laws.specs.Fractions as logic
 use Rattle.inertia_laws.specs.Elimination.{State, add_column, add_row, prepared, finished, step, start, steps}
 use Rattle.inertia_laws.specs.Agreement.{Agree, AgreeAll}

@@ -1,5 +1,5 @@
 -- Tables that are made entry by entry: the entry at a place, and why one was not made.
-use Rattle.std.proofs.Common.{◌≡◌, ℕ, zero, suc, ◌≢◌, ◌+◌, ◌-◌, ◌*◌, ◌<◌, ◌≤◌, Bool, true, false, List, [], ◌∷◌, ◌++◌, length, get_or, eqb, refl, sym, ap, ◌∙◌, arith}
+use Rattle.std.proofs.Common.{◌≡◌, ℕ, zero, suc, ◌≢◌, ◌+◌, ◌-◌, ◌*◌, ◌<◌, Bool, true, false, List, [], ◌∷◌, ◌++◌, length, get_or, eqb, refl, sym, ap, ◌∙◌, arith}
 use Rattle.std.proofs.lemmas.Bool.{eqb-true, eqb-false}
 use Rattle.std.proofs.lemmas.List.{length-append, get_or-append_right, length-map}
 use Rattle.inertia_laws.specs.Fractions as logic
@@ -42,7 +42,7 @@ length-tabulated n zero f = omega arith
 length-tabulated n (suc rows) f = omega (arith, length-append (tabulated n rows f) (listed n (f rows)), length-tabulated n rows f, length-listed n (f rows))
 
 -- an earlier row ends before a later one
-row_before : (n i rows j : ℕ) → i < rows → j < n → i * n + j < rows * n
+pub row_before : (n i rows j : ℕ) → i < rows → j < n → i * n + j < rows * n
 row_before n i zero j h g = absurd (omega arith)
 row_before n i (suc rows) j h g =
     elim (eqb i rows) as (λ v. eqb i rows ≡ v → i * n + j < suc rows * n) [

@@ -2,8 +2,8 @@
 //! each other, with P-transposed times the matrix times P diagonal.
 #![tactic(auto)]
 
-mod arithmetic;
 mod agreement;
+mod arithmetic;
 mod certificate;
 mod checking;
 mod clearing;
@@ -21,9 +21,11 @@ mod steps;
 mod sums;
 mod tabulate;
 
-pub use checking::check;
 pub use certificate::{Certificate, Counts, inertia};
-
+pub use checking::check;
 pub use fault::{InertiaFault, MatrixFault, OutOfBits};
 pub use fraction::Fraction;
 pub use matrix::Matrix;
+
+#[cfg(test)]
+mod tests;

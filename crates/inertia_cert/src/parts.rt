@@ -39,14 +39,20 @@ pub(crate) fn less_part(matrix: &Grid, pivot: usize, row: usize, column: usize) 
     requires column { column < matrix.now.size }
     ensures { let m = at matrix.now in let rho = ratio (m pivot column) (m pivot pivot) in
         FormsAs result (divide_fits (m pivot column) (m pivot pivot) && (multiply_fits (m row pivot) rho && subtract_fits (m row column) (times (m row pivot) rho)))
-            (minus (m row column) (times (m row pivot) rho)) }
+        (minus (m row column) (times (m row pivot) rho)) }
 {
     let rho = quotient(matrix, pivot, column)?;
     less_product(matrix.at(row, column), matrix.at(row, pivot), rho)
 }
 
 /// The entry of the other matrix, less the quotient of its column times the one in the pivot's column.
-pub(crate) fn less_part_of_column(matrix: &Grid, grid: &Grid, pivot: usize, row: usize, column: usize) -> Option<Fraction>
+pub(crate) fn less_part_of_column(
+    matrix: &Grid,
+    grid: &Grid,
+    pivot: usize,
+    row: usize,
+    column: usize,
+) -> Option<Fraction>
     requires same_size { grid.now.size ≡ matrix.now.size }
     requires pivot { pivot < matrix.now.size }
     requires not_zero { is_zero (at matrix.now pivot pivot).num ≡ false }
@@ -54,7 +60,7 @@ pub(crate) fn less_part_of_column(matrix: &Grid, grid: &Grid, pivot: usize, row:
     requires column { column < matrix.now.size }
     ensures { let m = at matrix.now in let p = at grid.now in let rho = ratio (m pivot column) (m pivot pivot) in
         FormsAs result (divide_fits (m pivot column) (m pivot pivot) && (multiply_fits rho (p row pivot) && subtract_fits (p row column) (times rho (p row pivot))))
-            (minus (p row column) (times rho (p row pivot))) }
+        (minus (p row column) (times rho (p row pivot))) }
 {
     let rho = quotient(matrix, pivot, column)?;
     less_product(grid.at(row, column), rho, grid.at(row, pivot))
@@ -69,7 +75,14 @@ fn plus_product(x: Fraction, y: Fraction, z: Fraction) -> Option<Fraction>
 }
 
 /// The sum, and the quotient of the place times its row's entry in the column, if the place is cleared.
-fn gathered_place(matrix: &Grid, grid: &Grid, pivot: usize, column: usize, place: usize, sum: Fraction) -> Option<Fraction>
+fn gathered_place(
+    matrix: &Grid,
+    grid: &Grid,
+    pivot: usize,
+    column: usize,
+    place: usize,
+    sum: Fraction,
+) -> Option<Fraction>
     requires same_size { grid.now.size ≡ matrix.now.size }
     requires pivot { pivot < matrix.now.size }
     requires not_zero { is_zero (at matrix.now pivot pivot).num ≡ false }

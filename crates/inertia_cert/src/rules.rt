@@ -3,9 +3,9 @@
 ghost use Rattle.std.specs.Prelude.{◌≡◌, ◌<◌};
 
 use crate::arithmetic::{minus, plus};
-use crate::places::exchanged;
 use crate::fraction::Fraction;
 use crate::grid::Grid;
+use crate::places::exchanged;
 use crate::tabulate::Rule;
 
 /// The places `first` and `second` exchanged, among the rows, the columns or both.

@@ -17,7 +17,12 @@ use crate::tabulate::tabulate;
 use std::alloc::Global;
 
 /// Part 1: the places exchanged in rows and columns of M, columns of P and rows of Q.
-fn exchange(alloc: Global, now: &Elimination, first: usize, second: usize) -> Result<Elimination, FormFault>
+fn exchange(
+    alloc: Global,
+    now: &Elimination,
+    first: usize,
+    second: usize,
+) -> Result<Elimination, FormFault>
     requires first { first < size_of now.now }
     requires second { second < size_of now.now }
     ensures sized { IfOk result (λ next. size_of next ≡ size_of now.now) }
@@ -63,7 +68,12 @@ fn exchange(alloc: Global, now: &Elimination, first: usize, second: usize) -> Re
 
 /// Part 2: the place `from` added to the place `to` in columns and then rows of M and in columns of P,
 /// and the row `to` of Q taken from its row `from`.
-fn add_place(alloc: Global, now: &Elimination, to: usize, from: usize) -> Result<Elimination, FormFault>
+fn add_place(
+    alloc: Global,
+    now: &Elimination,
+    to: usize,
+    from: usize,
+) -> Result<Elimination, FormFault>
     requires to { to < size_of now.now }
     requires from { from < size_of now.now }
     ensures sized { IfOk result (λ next. size_of next ≡ size_of now.now) }

@@ -39,7 +39,12 @@ pub(crate) trait Rule {
 }
 
 /// Appends a row by the rule.
-fn push_row<R: Rule>(entries: &mut Vec<Fraction>, size: usize, rule: &R, row: usize) -> Result<(), FormFault>
+fn push_row<R: Rule>(
+    entries: &mut Vec<Fraction>,
+    size: usize,
+    rule: &R,
+    row: usize,
+) -> Result<(), FormFault>
     requires size { R.size rule.now ≡ size }
     requires in_range { row < size }
     ensures made { OnOk result (values entries.new.items ≡ values entries.old.items ++ listed size (R.gives rule.now row)) }

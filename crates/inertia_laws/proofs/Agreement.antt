@@ -1,8 +1,8 @@
 -- Matrices that agree in the places below n: so do what the elimination makes of them and the tests on what it forms.
 -- Every definition of the elimination reads entries below n alone, so each lemma names those that it reads.
-use Rattle.std.proofs.Common.{◌≡◌, ℕ, zero, suc, ◌+◌, ◌-◌, ◌<◌, ◌≤◌, Bool, true, false, not, ◌&&◌, ◌||◌, Option, Some, None, cond, eqb, ltb, refl, sym, subst, ap, ap₂, ◌∙◌, arith}
+use Rattle.std.proofs.Common.{◌≡◌, ℕ, zero, suc, ◌+◌, ◌-◌, ◌<◌, ◌≤◌, Bool, true, false, not, ◌&&◌, ◌||◌, Option, Some, None, cond, eqb, ltb, refl, subst, ap, ap₂, ◌∙◌, arith}
 use Rattle.inertia_laws.specs.Matrices.{is_zero}
-use Rattle.inertia_laws.specs.Fractions.{Fraction, plus, minus, times, ratio}
+use Rattle.inertia_laws.specs.Fractions.{Fraction}
 use Rattle.inertia_laws.specs.Elimination.{State, exchanged, exchange, add_column, add_row, take_row, add_place, is_met, is_cleared, clear_matrix, clear_columns, gathered, clear, first_from, or_added, or_exchanged, prepared, finished, step}
 use Rattle.inertia_laws.specs.Range.{every, every_place, add_column_fits, add_row_fits, take_row_fits, add_place_fits, clear_matrix_fits, clear_columns_fits, gather_place_fits, gather_fits, clear_fits, added_fits, exchanged_fits, prepared_fits, finished_fits, step_fits}
 use Rattle.inertia_laws.specs.Agreement.{Agree, AgreeAll}

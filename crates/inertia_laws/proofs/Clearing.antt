@@ -2,7 +2,7 @@
 use Rattle.std.proofs.Common.{◌≡◌, ℕ, zero, suc, ◌+◌, ◌<◌, ◌≢◌, ℤ, pos, ◌*ℤ◌, true, false, cond, eqb, refl, sym, ap, subst, ◌∙◌, arith}
 use Rattle.std.proofs.lemmas.Bool.{eqb-true, eqb-false}
 use Rattle.ring_identities.proofs.Integers.{times_comm}
-use Rattle.inertia_laws.specs.Matrices.{count, product, is_zero, is_positive, is_negative}
+use Rattle.inertia_laws.specs.Matrices.{product, is_zero, is_positive, is_negative}
 use Rattle.inertia_laws.specs.Fractions.{Fraction}
 use Rattle.inertia_laws.specs.Inertia.{Diagonalises}
 use Rattle.inertia_laws.specs.Certificates.{IsCertificate, positives, negatives, zeros, bordered}

@@ -1,7 +1,7 @@
 -- The first step that leaves 128 bits is the one at which a number doesn't fit after none before, and there is none where
 -- each step fits.
-use Rattle.std.proofs.Common.{◌≡◌, ℕ, zero, suc, pred, ◌≢◌, ℤ, ◌+◌, ◌&&◌, ◌<◌, ◌≤◌, Bool, true, false, not, Option, Some, None, cond, eqb, refl, sym, ap, ap₂, ◌∙◌, arith}
-use Rattle.std.proofs.lemmas.Bool.{eqb-true, eqb-false, true≢false}
+use Rattle.std.proofs.Common.{◌≡◌, ℕ, zero, suc, pred, ◌≢◌, ℤ, ◌+◌, ◌&&◌, ◌<◌, ◌≤◌, Bool, true, false, not, Some, None, cond, eqb, refl, sym, ap, ap₂, ◌∙◌, arith}
+use Rattle.std.proofs.lemmas.Bool.{eqb-true, eqb-false}
 use Rattle.inertia_laws.specs.Elimination.{first_from, start, steps}
 use Rattle.inertia_laws.specs.Range.{every, step_fits, first_leaving}
 

@@ -1,5 +1,5 @@
 -- Matrices that agree below n with those of a certificate are a certificate.
-use Rattle.std.proofs.Common.{◌≡◌, ℕ, zero, suc, ◌<◌, ℤ, pos, Bool, true, false, cond, eqb, refl, sym, subst, ap, ap₂, ◌∙◌, arith}
+use Rattle.std.proofs.Common.{◌≡◌, ℕ, zero, suc, ◌<◌, ℤ, pos, cond, eqb, refl, sym, subst, ap, ap₂, ◌∙◌, arith}
 use Rattle.inertia_laws.specs.Matrices.{is_positive}
 use Rattle.inertia_laws.specs.Fractions.{Fraction, whole, AreEqual, add, multiply, total_fraction}
 use Rattle.inertia_laws.specs.Certificates.{identity, IsCertificate}

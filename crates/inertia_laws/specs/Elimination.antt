@@ -15,7 +15,7 @@
 --     first_from count i test     the least of so many places from i on that passes
 --     prepared n k, step n k      parts 1 and 2, and the whole step
 --     steps n k, eliminated n l   the first k steps, and the state at the end
-use Rattle.std.specs.Prelude.{◌≡◌, ℕ, zero, suc, ◌-◌, Bool, not, ◌&&◌, ◌==◌, nat_lt, if◌then◌else◌, ℤ, pos, Option, Some, None}
+use Rattle.std.specs.Prelude.{ℕ, zero, suc, ◌-◌, Bool, not, ◌&&◌, ◌==◌, nat_lt, if◌then◌else◌, ℤ, pos, Option, Some, None}
 use Rattle.inertia_laws.specs.Matrices.{is_zero}
 use Rattle.inertia_laws.specs.Fractions.{Fraction, whole, plus, minus, times, ratio}
 use Rattle.inertia_laws.specs.Certificates.{identity}

@@ -1,7 +1,6 @@
-use Rattle.std.proofs.Common.{refl, subst, sym, ap, ◌∙◌, unsigned_abs, IsTrue, FitsSigned, rules}
+use Rattle.std.proofs.Common.{refl, subst, sym, IsTrue, FitsSigned, rules}
 use Rattle.std.specs.Int.{w128}
 use Rattle.std.proofs.lemmas.Int.{to_z-of_z}
-use Rattle.inertia_laws.specs.Fractions.{gcd}
 use Rattle.inertia_laws.specs.Range.{fits}
 use Rattle.inertia_cert.proofs.Opposites.{gcd_one}
 use Rattle.inertia_cert.proofs.arithmetic.whole.Goals as goal

@@ -1,5 +1,4 @@
-use Rattle.std.proofs.Common.{◌≡◌, ◌<◌, ◌+◌, suc, true, false, Some, sym, ap, ◌∙◌, arith, add-one, subst}
-use Rattle.inertia_laws.specs.Range.{step_fits}
+use Rattle.std.proofs.Common.{◌≡◌, ◌<◌, ◌+◌, suc, Some, sym, ap, ◌∙◌, arith, add-one, subst}
 use Rattle.inertia_laws.proofs.FirstStep.{FitBelow, FitBelow-more, leaves_at, leaves_nowhere}
 use Rattle.inertia_cert.specs.SymmetricMatrices.{entry}
 use Rattle.inertia_cert.specs.Eliminations.{size_of, state}

@@ -1,7 +1,6 @@
-use Rattle.std.proofs.Common.{◌≡◌, ◌&&◌, true, subst, sym, ap₂, ◌∙◌}
+use Rattle.std.proofs.Common.{◌&&◌, subst, sym, ap₂, ◌∙◌}
 use Rattle.std.proofs.lemmas.Result.{err_from_is_err_and}
-use Rattle.inertia_laws.specs.Elimination.{add_column}
-use Rattle.inertia_laws.specs.Range.{every_place, add_column_fits, add_row_fits, take_row_fits}
+use Rattle.inertia_laws.specs.Range.{every_place, add_column_fits, take_row_fits}
 use Rattle.inertia_cert.specs.Grids.{at, CausedBy}
 use Rattle.inertia_cert.specs.Eliminations.{size_of, state}
 use Rattle.inertia_cert.proofs.Stages.{caused_and, caused_first, rows_made, rows_fit}

@@ -1,8 +1,4 @@
-use Rattle.std.proofs.Common.{◌≡◌, true}
-use Rattle.std.proofs.lemmas.Result.{IfOk-weaker, MatchResult-weaker}
-use Rattle.inertia_laws.specs.Elimination.{finished}
-use Rattle.inertia_laws.specs.Agreement.{AgreeAll}
-use Rattle.inertia_laws.specs.Range.{finished_fits}
+use Rattle.std.proofs.lemmas.Result.{MatchResult-weaker}
 use Rattle.inertia_cert.specs.Eliminations.{size_of, state}
 use Rattle.inertia_cert.proofs.Stages.{step_made, step_fit, step_refused}
 use Rattle.inertia_cert.proofs.steps.step.Goals as goal

@@ -1,7 +1,7 @@
 use Rattle.std.proofs.lemmas.Result.{err_from_is_err_and}
-use Rattle.std.proofs.Common.{◌≡◌, ◌<◌, ◌+◌, ◌*◌, pos, arith, subst, sym, ap, ◌∙◌, get_or}
+use Rattle.std.proofs.Common.{◌≡◌, ◌+◌, ◌*◌, pos, arith, ap, ◌∙◌, get_or}
 use Rattle.inertia_laws.specs.Range.{every}
-use Rattle.inertia_cert.specs.Grids.{values, tabulated, CausedBy}
+use Rattle.inertia_cert.specs.Grids.{values, tabulated}
 use Rattle.inertia_laws.specs.Fractions.{whole}
 use Rattle.inertia_cert.proofs.Tables.{caused_later, length-entries, get-tabulated}
 use Rattle.inertia_cert.proofs.tabulate.tabulate.Goals as goal
