@@ -5,9 +5,9 @@ use Rattle.inertia_laws.specs.Matrices.{is_positive}
 use Rattle.inertia_laws.specs.Certificates.{identity, IsCertificate}
 use Rattle.inertia_laws.specs.Agreement.{Agree}
 use Rattle.inertia_laws.specs.Range.{every_place}
-use Rattle.inertia_laws.specs.Checking.{product_entry, product_fits, congruence_entry, check_fits}
-use Rattle.inertia_laws.proofs.CheckedEquations.{IsLowest, diagonal_matrix, certificate_from, inverse_to, congruence_to}
-use Rattle.inertia_laws.proofs.CheckedFits.{whole_fits, fits_by_parts}
+use Rattle.inertia_laws.specs.Checking.{product_entry, product_fits, congruence_entry, check_fits, whole_fits, diagonal_matrix}
+use Rattle.inertia_laws.proofs.CheckedEquations.{IsLowest, certificate_from, inverse_to, congruence_to}
+use Rattle.inertia_laws.proofs.CheckedFits.{fits_by_parts}
 use Rattle.inertia_cert.specs.declared.certificate.Certificate.{Certificate}
 use Rattle.inertia_cert.specs.SymmetricMatrices.{SquareMatrix, entry}
 use Rattle.inertia_cert.specs.Eliminations.{certificate_size, p_of, q_of, diagonal_of}

@@ -74,6 +74,7 @@ pub fn inertia(alloc: Global, matrix: &Matrix) -> Result<Certificate, InertiaFau
     ensures in_range { OnOk result (first_leaving matrix.now.size (entry matrix.now) ≡ None) }
     ensures range { (at : ℕ) → result ≡ Err (InertiaFault.Range at) → first_leaving matrix.now.size (entry matrix.now) ≡ Some at }
 {
+    // What a matrix keeps is told by the contract of its size.
     let _size = matrix.size();
     let done = eliminate(alloc, matrix)?;
     Ok(Certificate { done })

@@ -95,6 +95,7 @@ impl Terms for ImageTerms<'_> {
     ghost fits = { λ terms k. multiply_fits (whole (entry terms.matrix.now terms.row k)) (at terms.p.now k terms.column) };
 
     fn term(&self, place: usize) -> Option<Fraction> {
+        // What a matrix keeps is told by the contract of its size.
         let _size = self.matrix.size();
         let entry = whole(self.matrix.entry(self.row as u32, place as u32));
         times(entry, self.p.at(place, self.column))
@@ -158,8 +159,7 @@ pub(crate) struct CongruenceEntry<'a> {
 }
 
 impl Rule for CongruenceEntry<'_> {
-    ghost use Rattle.inertia_laws.specs.Checking.{congruence_entry};
-    ghost use Rattle.inertia_laws.proofs.CheckedFits.{whole_fits};
+    ghost use Rattle.inertia_laws.specs.Checking.{congruence_entry, whole_fits};
     ghost use Rattle.inertia_cert.specs.SymmetricMatrices.{entry};
     ghost use Rattle.inertia_cert.specs.Grids.{at};
 
@@ -188,7 +188,7 @@ pub(crate) struct Diagonal<'a> {
 
 impl Rule for Diagonal<'_> {
     ghost use Rattle.std.specs.Prelude.{true};
-    ghost use Rattle.inertia_laws.proofs.CheckedEquations.{diagonal_matrix};
+    ghost use Rattle.inertia_laws.specs.Checking.{diagonal_matrix};
     ghost use Rattle.inertia_cert.specs.Grids.{at};
 
     ghost size = { λ rule. rule.grid.now.size };

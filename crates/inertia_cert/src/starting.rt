@@ -33,6 +33,7 @@ impl Rule for WholeEntries<'_> {
     ghost fits = { λ rule i j. true };
 
     fn entry(&self, row: usize, column: usize) -> Option<Fraction> {
+        // What a matrix keeps is told by the contract of its size.
         let _size = self.matrix.size();
         Some(whole(self.matrix.entry(row as u32, column as u32)))
     }

@@ -7,7 +7,7 @@ use Rattle.inertia_laws.specs.Matrices.{is_positive}
 use Rattle.inertia_laws.specs.Fractions.{Fraction, whole, AreEqual, gcd, reduce, add, multiply, plus, times, total_fraction}
 use Rattle.inertia_laws.specs.Certificates.{identity, IsCertificate}
 use Rattle.inertia_laws.specs.Agreement.{Agree}
-use Rattle.inertia_laws.specs.Checking.{summed, product_entry, image_entry, congruence_entry}
+use Rattle.inertia_laws.specs.Checking.{summed, product_entry, image_entry, congruence_entry, diagonal_matrix}
 use Rattle.inertia_laws.proofs.Values.{Means, Means-plus, Means-add, Means-times, Means-multiply, Means-scaled, Means-eq, Means-zero, equal_by_value, both_positive, gcd_is}
 use Rattle.inertia_laws.proofs.Terms.{lowest_terms}
 use Rattle.inertia_laws.proofs.Unique.{lowest_unique}
@@ -105,10 +105,6 @@ module _ (x total wanted : Fraction) (h : Same x total) (x_lowest : IsLowest x) 
       let other : Same wanted total = record { x_positive = positive; y_positive = h.y_positive; equal = sym e } in
       let same : Same x wanted = Same-trans h other in
       lowest_unique x wanted h.x_positive positive x_lowest lowest same.equal
-
--- the diagonal as a matrix
-abbrev pub diagonal_matrix : (ℕ → Fraction) → ℕ → ℕ → Fraction
-diagonal_matrix d i j = cond (eqb i j) (d i) (whole (pos 0))
 
 lowest_whole : (z : ℤ) → IsLowest (whole z)
 unfolding gcd

@@ -1,10 +1,10 @@
 -- The entries of P-transposed times L P, each with the entries of L P that it takes, fit exactly where all entries of both
 -- products do.
-use Rattle.std.proofs.Common.{◌≡◌, ℕ, zero, suc, pred, ◌≢◌, ◌<◌, ℤ, Bool, true, false, ◌&&◌, eqb, refl, sym, ap, ap₂, ◌∙◌, arith}
+use Rattle.std.proofs.Common.{◌≡◌, ℕ, zero, suc, ◌≢◌, ◌<◌, ℤ, Bool, true, false, ◌&&◌, eqb, refl, sym, ap, ap₂, ◌∙◌, arith}
 use Rattle.std.proofs.lemmas.Bool.{eqb-true, eqb-false}
-use Rattle.inertia_laws.specs.Fractions.{Fraction, times}
+use Rattle.inertia_laws.specs.Fractions.{Fraction}
 use Rattle.inertia_laws.specs.Range.{every, every_place, multiply_fits}
-use Rattle.inertia_laws.specs.Checking.{sum_fits, image_entry, image_fits, congruence_fits}
+use Rattle.inertia_laws.specs.Checking.{image_entry, image_fits, congruence_fits, whole_fits}
 
 pub and_left : (a b : Bool) → a && b ≡ true → a ≡ true
 and_left true b e = refl
@@ -40,32 +40,27 @@ same_test false true f g = g refl
 same_test false false f g = refl
 
 module _ (n : ℕ) (l : ℕ → ℕ → ℤ) (p : ℕ → ℕ → Fraction) where
-  -- the numbers of an entry, with those of the entries of L P that it takes
-  abbrev pub whole_fits : ℕ → ℕ → Bool
-  whole_fits i j =
-      every n (λ k. image_fits n l p k j && multiply_fits (p k i) (image_entry n l p k j)) && sum_fits (pred n) (λ k. times (p k i) (image_entry n l p k j))
-
-  parts : every_place n whole_fits ≡ true → every_place n (image_fits n l p) && every_place n (congruence_fits n l p) ≡ true
+  parts : every_place n (whole_fits n l p) ≡ true → every_place n (image_fits n l p) && every_place n (congruence_fits n l p) ≡ true
   parts e =
       ap₂ (λ u v. u && v)
       (place_all n (image_fits n l p) (λ i j hi hj.
-      let here = place_at n i j whole_fits e hi hj in
+      let here = place_at n i j (whole_fits n l p) e hi hj in
       and_left _ _ (every_at n i (λ k. image_fits n l p k j && multiply_fits (p k i) (image_entry n l p k j)) (and_left _ _ here) hi)))
       (place_all n (congruence_fits n l p) (λ i j hi hj.
-      let here = place_at n i j whole_fits e hi hj in
+      let here = place_at n i j (whole_fits n l p) e hi hj in
       ap₂ (λ u v. u && v)
       (every_all n _ (λ k hk. and_right _ _ (every_at n k (λ k. image_fits n l p k j && multiply_fits (p k i) (image_entry n l p k j)) (and_left _ _ here) hk)))
       (and_right _ _ here)))
 
-  whole : every_place n (image_fits n l p) && every_place n (congruence_fits n l p) ≡ true → every_place n whole_fits ≡ true
+  whole : every_place n (image_fits n l p) && every_place n (congruence_fits n l p) ≡ true → every_place n (whole_fits n l p) ≡ true
   whole e =
       let images = and_left _ _ e in
       let rest = and_right _ _ e in
-      place_all n whole_fits (λ i j hi hj.
+      place_all n (whole_fits n l p) (λ i j hi hj.
       let here = place_at n i j (congruence_fits n l p) rest hi hj in
       ap₂ (λ u v. u && v)
       (every_all n _ (λ k hk. ap₂ (λ u v. u && v) (place_at n k j (image_fits n l p) images hk hj) (every_at n k _ (and_left _ _ here) hk)))
       (and_right _ _ here))
 
-  pub fits_by_parts : every_place n whole_fits ≡ every_place n (image_fits n l p) && every_place n (congruence_fits n l p)
+  pub fits_by_parts : every_place n (whole_fits n l p) ≡ every_place n (image_fits n l p) && every_place n (congruence_fits n l p)
   fits_by_parts = same_test _ _ parts whole

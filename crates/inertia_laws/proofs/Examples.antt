@@ -1,3 +1,4 @@
+-- The elimination and its first step that leaves 128 bits, computed at worked matrices.
 use Rattle.std.proofs.Common.{◌≡◌, ℕ, zero, suc, ℤ, pos, negsuc, List, [], ◌∷◌, refl, get_or, ◌^◌, Some, None}
 use Rattle.inertia_laws.specs.Range.{first_leaving}
 use Rattle.inertia_laws.specs.Fractions.{reduce, gcd}

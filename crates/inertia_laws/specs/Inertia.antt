@@ -1,4 +1,8 @@
--- Certificates of inertia over whole numbers.
+-- Certificates of inertia over whole numbers, up to factors: what a certificate of fractions becomes when each matrix is
+-- brought over one denominator. (This project's own.)
+--
+--     Diagonalises n l p q d     P Q is a multiple of the identity, and P-transposed L P one of the diagonal d
+--     positive_count n d, negative_count n d, zero_count n d    the counts of a diagonal of n whole numbers
 use Rattle.std.specs.Prelude.{◌≡◌, ℕ, ◌<◌, true, false, ℤ, ◌*ℤ◌}
 use Rattle.inertia_laws.specs.Matrices.{single, transpose, product, is_positive, is_negative, is_zero, count}
 
