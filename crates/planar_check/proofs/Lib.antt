@@ -1,0 +1,5 @@
+mod Examples
+mod Pushes
+mod Others
+mod Counts
+mod PlaceLists

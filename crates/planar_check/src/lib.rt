@@ -1,0 +1,11 @@
+//! Faces, connected pieces and planarity of diagrams and nets, by Euler's formula.
+#![tactic(auto)]
+
+mod count;
+mod fault;
+mod other;
+mod placed;
+mod planar;
+
+pub use fault::PlanarFault;
+pub use planar::{Planar, PlanarNet, check, check_net};
