@@ -13,6 +13,12 @@ range_more : (a n j : ℕ) → a + n ≡ j → range_with_len a (suc n) ≡ rang
 range_more a zero j e = let same : a ≡ j = omega (arith, e) in ap (λ (x : ℕ). x ∷ []) same
 range_more a (suc n) j e = ap (λ (xs : List ℕ). a ∷ xs) (range_more (a + 1) n j (omega (arith, e)))
 
+pub range_next : (n : ℕ) → range_with_len 0 (n + 1) ≡ range_with_len 0 n ++ n ∷ []
+range_next n =
+    let one : n + 1 ≡ suc n = omega arith in
+    let same : 0 + n ≡ n = omega arith in
+    ap (range_with_len 0) one ∙ range_more 0 n n same
+
 -- what a test counts
 abbrev once : Bool → ℕ
 once b = cond b 1 0

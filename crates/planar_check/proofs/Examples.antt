@@ -6,6 +6,8 @@ use Rattle.pd_reader.specs.declared.item.Item.TheVariants.{X, Loop}
 use Rattle.pd_reader.specs.declared.item.NetItem.TheVariants.{Y}
 use Rattle.graph_parts.specs.Parts.{part_count, part}
 use Rattle.planar_check.specs.Places.{item_slots, net_item_slots, labels_by_place, turned_places, other_place, other_places}
+use Rattle.graph_parts.specs.LeastNames.{least_name}
+use Rattle.planar_check.specs.Faces.{faces}
 use Rattle.planar_check.specs.Planar.{next_place, face_count, piece_count, edge_count, wanted_faces, planar_refusal}
 
 -- the left-handed trefoil
@@ -21,6 +23,10 @@ trefoil_next = refl
 trefoil_faces : face_count trefoil ≡ 5
 unfolding face_count other_place part_count part
 trefoil_faces = refl
+
+trefoil_listed : faces trefoil ≡ (0 ∷ 4 ∷ 8 ∷ []) ∷ (1 ∷ 7 ∷ []) ∷ (2 ∷ 10 ∷ 6 ∷ []) ∷ (3 ∷ 9 ∷ []) ∷ (5 ∷ 11 ∷ []) ∷ []
+unfolding faces other_place least_name part
+trefoil_listed = refl
 
 trefoil_wanted : wanted_faces trefoil ≡ 5
 unfolding wanted_faces piece_count edge_count other_place part_count part

@@ -3,3 +3,4 @@ mod Pushes
 mod Others
 mod Counts
 mod PlaceLists
+mod Cycles

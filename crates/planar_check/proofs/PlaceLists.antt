@@ -1,6 +1,6 @@
 -- The lists of the places of some items have one length and are in range, so that they can be looked up.
 --
--- Others cite: ArePlaces and its lemmas turns_long, owners_long, turns_in_range, owners_in_range,
+-- Others cite: places_are, ArePlaces and its lemmas turns_long, owners_long, turns_in_range, owners_in_range,
 -- others_in_range, others_long.
 use Rattle.std.proofs.Common.{◌≡◌, ℕ, ◌+◌, ◌<◌, List, length, sym, ap, ◌∙◌, arith, All}
 use Rattle.std.proofs.lemmas.List.Elements.{All-same, All-weaker}
@@ -14,6 +14,15 @@ pub record ArePlaces (cs : List (List ℕ)) (turns numbers others : List ℕ) : 
   pub turns_are : turns ≡ turned_places 0 cs
   pub owners_are : numbers ≡ owners 0 cs
   pub others_are : others ≡ other_places (labels_by_place cs)
+
+-- what the lists say, as they were passed
+pub places_are : (cs : List (List ℕ)) (labels turns numbers others read : List ℕ) → read ≡ labels → labels ≡ labels_by_place cs → turns ≡ turned_places 0 cs → numbers ≡ owners 0 cs
+    → others ≡ other_places read → ArePlaces cs turns numbers others
+places_are cs labels turns numbers others read r l t n o = record {
+  turns_are = t;
+  owners_are = n;
+  others_are = o ∙ ap other_places (r ∙ l);
+}
 
 module _ (cs : List (List ℕ)) (turns numbers others : List ℕ) (are : ArePlaces cs turns numbers others) where
   pub others_long : length others ≡ length (labels_by_place cs)

@@ -1,2 +1,3 @@
 pub mod Places
 pub mod Planar
+pub mod Faces

@@ -32,6 +32,25 @@ fn count_parts(alloc: Global, names: usize, edges: &[(usize, usize)]) -> Result<
     Ok(count_least(&entries))
 }
 
+/// Each place with the one that follows it in its face.
+pub(crate) fn face_edges(
+    alloc: Global,
+    turns: &[usize],
+    others: &[usize],
+) -> Result<Vec<(usize, usize)>, AllocError>
+    requires same_length { length turns.now ≡ length others.now }
+    requires turns_in_range { All (λ place. place < length others.now) turns.now }
+    requires others_in_range { All (λ place. place < length others.now) others.now }
+    ensures edges { IfOk result (λ edges. edges.items ≡ face_edges turns.now others.now) }
+    ensures among { IfOk result (λ edges. All (λ edge. (edge.0 < length others.now) × (edge.1 < length others.now)) edges.items) }
+{
+    let mut edges = Vec::new(alloc);
+    for place in 0..others.len() {
+        edges.push((place, turns[others[place]]))?;
+    }
+    Ok(edges)
+}
+
 /// How many faces there are.
 pub(crate) fn count_faces(
     alloc: Global,
@@ -44,10 +63,7 @@ pub(crate) fn count_faces(
     ensures count { IfOk result (λ count. count ≡ part_count (range_with_len 0 (length others.now)) (face_edges turns.now others.now)) }
     ensures few { IfOk result (λ count. count ≤ length others.now) }
 {
-    let mut edges = Vec::new(alloc);
-    for place in 0..others.len() {
-        edges.push((place, turns[others[place]]))?;
-    }
+    let edges = face_edges(alloc, turns, others)?;
     count_parts(alloc, others.len(), &edges)
 }
 

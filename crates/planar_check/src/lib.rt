@@ -2,10 +2,12 @@
 #![tactic(auto)]
 
 mod count;
+mod face;
 mod fault;
 mod other;
 mod placed;
 mod planar;
 
+pub use face::{Face, faces};
 pub use fault::PlanarFault;
 pub use planar::{Planar, PlanarNet, check, check_net};

@@ -1,20 +1,8 @@
-use Rattle.std.proofs.Common.{◌<◌, length, slice_index, ◌∙◌, arith}
-use Rattle.planar_check.specs.Planar.{next_place}
-use Rattle.planar_check.proofs.Others.{mapped_push}
-use Rattle.planar_check.proofs.Counts.{edges_among}
+use Rattle.std.proofs.Common.{ℕ, ◌<◌, length, sym, subst, List, All}
 use Rattle.planar_check.proofs.count.count_faces.Goals as goal
-
-pub loop-place-preserved : goal.loop-place-preserved
-loop-place-preserved c =
-    mapped_push (λ p. (p, next_place c.args.turns.now c.args.others.now p)) c.loop-place.place c.loop-place.edges.items _ c.loop-place.invariant c.in_ok-push.ensures.items
 
 pub count_parts-requires : goal.count_parts-requires
 count_parts-requires c =
-    let others = c.args.others.now in
-    let turns = c.args.turns.now in
-    record {
-      among = edges_among (λ p. (p, next_place turns others p)) c.loop-place.place (length others) c.deref.result.now (c.deref.ensures.value ∙ c.loop-place.invariant) (λ p l.
-          let here : p < length others = omega (arith, l, c.loop-place.auto.place-end) in
-          let across : slice_index others p < length turns = omega (arith, c.requires.others_in_range p 0 here, c.requires.same_length) in
-          (here, c.requires.turns_in_range (slice_index others p) 0 across));
-    }
+    let n = length c.args.others.now in
+    let P : List (ℕ × ℕ) → Type 0 = λ edges. All (λ edge. (edge.0 < n) × (edge.1 < n)) edges in
+    record { among = subst P (sym c.deref.ensures.value) c.in_ok-edges.ensures.among }

@@ -3,17 +3,8 @@ use Rattle.std.specs.List.{range_with_len}
 use Rattle.graph_parts.specs.Parts.{part_count}
 use Rattle.planar_check.specs.Places.{crossings, labels_by_place, turned_places, owners, other_places}
 use Rattle.planar_check.specs.Planar.{face_edges, face_count, piece_edges, piece_count, count_edges, edge_count, wanted_faces}
-use Rattle.planar_check.proofs.PlaceLists.{ArePlaces, others_long, turns_long, owners_long, turns_in_range, owners_in_range, others_in_range}
+use Rattle.planar_check.proofs.PlaceLists.{places_are, others_long, turns_long, owners_long, turns_in_range, owners_in_range, others_in_range}
 use Rattle.planar_check.proofs.planar.Faces.count.Goals as goal
-
--- what the lists say, as they were passed
-places_are : (cs : List (List ℕ)) (labels turns numbers others read : List ℕ) → read ≡ labels → labels ≡ labels_by_place cs → turns ≡ turned_places 0 cs → numbers ≡ owners 0 cs
-    → others ≡ other_places read → ArePlaces cs turns numbers others
-places_are cs labels turns numbers others read r l t n o = record {
-  turns_are = t;
-  owners_are = n;
-  others_are = o ∙ ap other_places (r ∙ l);
-}
 
 pub count_faces-requires-clause-same_length : goal.count_faces-requires-clause-same_length
 count_faces-requires-clause-same_length g c =

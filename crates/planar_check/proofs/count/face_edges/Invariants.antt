@@ -1,7 +1,7 @@
 use Rattle.std.proofs.Common.{◌≡◌, map}
 use Rattle.std.specs.List.{range_with_len}
 use Rattle.planar_check.specs.Planar.{next_place}
-use Rattle.planar_check.proofs.count.count_faces.Given as goal
+use Rattle.planar_check.proofs.count.face_edges.Given as goal
 
 -- the places so far, each with the next one of its face
 abbrev pub invariant-loop-place : goal.invariant-loop-place
