@@ -7,6 +7,8 @@ mod fault;
 mod other;
 mod placed;
 mod planar;
+#[cfg(test)]
+mod tests;
 
 pub use face::{Face, faces};
 pub use fault::PlanarFault;
