@@ -1,0 +1,6 @@
+mod Examples
+mod Pushes
+mod Others
+mod Counts
+mod PlaceLists
+mod Cycles

@@ -1,0 +1,4 @@
+pub mod Places
+pub mod Planar
+pub mod Faces
+pub mod Components

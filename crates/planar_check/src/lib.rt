@@ -1,0 +1,15 @@
+//! Faces, connected pieces and planarity of diagrams and nets, by Euler's formula.
+#![tactic(auto)]
+
+mod count;
+mod face;
+mod fault;
+mod other;
+mod placed;
+mod planar;
+#[cfg(test)]
+mod tests;
+
+pub use face::{Face, faces};
+pub use fault::PlanarFault;
+pub use planar::{Planar, PlanarNet, check, check_net};

@@ -1,0 +1,94 @@
+//! Worked rows: diagrams and nets with their numbers of faces, found by hand, and the faces of three.
+
+use crate::{PlanarFault, check, check_net, faces};
+use pd_reader::{read_net, read_pd};
+use std::test::Fail;
+
+/// The left-handed trefoil.
+const TREFOIL: &[u8] = b"PD[X[1,4,2,5],X[3,6,4,1],X[5,2,6,3]]";
+
+/// Text, number of faces and number that is wanted; planar where they are equal. Loops have no face.
+const DIAGRAMS: [(&[u8], Option<PlanarFault>); 12] = [
+    (b"PD[]", None),
+    (b"PD[Loop[1]]", None),
+    (b"PD[Loop[7],Loop[2]]", None),
+    (TREFOIL, None),
+    (b"PD[X[4,2,5,1],X[8,6,1,5],X[6,3,7,4],X[2,7,3,8]]", None),
+    (b"PD[X[1,1,2,2]]", None),
+    (b"PD[X[1,2,2,1]]", None),
+    (b"PD[X[1,1,2,2],Loop[5],X[3,4,4,3]]", None),
+    (b"PD[X[2,4,3,1],X[4,2,1,3]]", None),
+    (b"PD[X[1,6,2,5],X[6,3,5,2],X[3,8,4,7],X[8,1,7,4]]", None),
+    (
+        b"PD[X[1,2,1,2]]",
+        Some(PlanarFault::NotPlanar {
+            faces: 1,
+            wanted: 3,
+        }),
+    ),
+    (
+        b"PD[X[1,1,2,2],X[3,4,3,4]]",
+        Some(PlanarFault::NotPlanar {
+            faces: 4,
+            wanted: 6,
+        }),
+    ),
+];
+
+const NETS: [(&[u8], Option<PlanarFault>); 4] = [
+    (b"Net[]", None),
+    (b"Net[Y[1,2,3],Y[3,2,1]]", None),
+    (b"Net[Y[1,2,3],Y[1,5,6],Y[2,6,4],Y[3,4,5]]", None),
+    (
+        b"Net[Y[1,2,3],Y[1,2,3]]",
+        Some(PlanarFault::NotPlanar {
+            faces: 1,
+            wanted: 3,
+        }),
+    ),
+];
+
+/// Text and faces.
+const FACES: [(&[u8], &[&[u32]]); 3] = [
+    (
+        TREFOIL,
+        &[&[0, 4, 8], &[1, 7], &[2, 10, 6], &[3, 9], &[5, 11]],
+    ),
+    (b"PD[Loop[3],X[1,1,2,2]]", &[&[0, 2], &[1], &[3]]),
+    (b"PD[Loop[1]]", &[]),
+];
+
+#[test]
+fn worked_rows(rt: HostRuntime) -> Result<(), Fail> {
+    for (text, fault) in DIAGRAMS {
+        let diagram = read_pd(rt.alloc(), text)?;
+        let size = diagram.items().len();
+        match check(rt.alloc(), diagram) {
+            Ok(planar) => {
+                assert_eq!(rt; fault, None);
+                assert_eq!(rt; planar.diagram().items().len(), size);
+            }
+            Err(found) => assert_eq!(rt; fault, Some(found)),
+        }
+    }
+    for (text, fault) in NETS {
+        let net = read_net(rt.alloc(), text)?;
+        let size = net.items().len();
+        match check_net(rt.alloc(), net) {
+            Ok(planar) => {
+                assert_eq!(rt; fault, None);
+                assert_eq!(rt; planar.net().items().len(), size);
+            }
+            Err(found) => assert_eq!(rt; fault, Some(found)),
+        }
+    }
+    for (text, wanted) in FACES {
+        let diagram = read_pd(rt.alloc(), text)?;
+        let found = faces(rt.alloc(), &diagram)?;
+        assert_eq!(rt; found.len(), wanted.len());
+        for (face, places) in found.iter().zip(wanted) {
+            assert_eq!(rt; face.places(), *places);
+        }
+    }
+    Ok(())
+}
