@@ -11,6 +11,10 @@ use Rattle.root_quantum.specs.Parameters.{Parameters}
 use Rattle.pd_reader.specs.declared.item.Item.{Item}
 use Rattle.pd_reader.specs.declared.fault.TextFault.{TextFault}
 use Rattle.pd_reader.specs.declared.fault.TextFault.TheVariants as texts
+use Rattle.planar_check.specs.declared.fault.PlanarFault.{PlanarFault}
+use Rattle.planar_check.specs.declared.fault.PlanarFault.TheVariants as planar
+use Rattle.planar_check.specs.Places.{item_slots}
+use Rattle.planar_check.specs.Planar.{planar_refusal}
 use Rattle.skein_network.specs.Brackets.{bracket}
 use Rattle.wrt_request.specs.declared.request.Request.{Request}
 use Rattle.wrt_request.specs.declared.request.Request.TheVariants.{Bracket}
@@ -18,9 +22,9 @@ use Rattle.wrt_request.specs.declared.request.WordsFault.{WordsFault}
 use Rattle.wrt_request.specs.Requests.{request_of}
 use Rattle.wrt_commands.specs.declared.parameters.ParametersFault.{ParametersFault}
 use Rattle.wrt_commands.specs.declared.refusal.Refusal.{Refusal}
-use Rattle.wrt_commands.specs.declared.refusal.Refusal.TheVariants.{Words, Parameters as ParametersRefused, ReadFault, TooLong, Text, Crossings, WriteFault, Memory}
+use Rattle.wrt_commands.specs.declared.refusal.Refusal.TheVariants.{Words, Parameters as ParametersRefused, ReadFault, TooLong, Text, NotPlanar, Crossings, WriteFault, Memory}
 use Rattle.wrt_commands.specs.Reports.{report_of, status_of, fault_line}
-use Rattle.wrt_commands.specs.Outcomes.{ended, reads, done, refused, opening, with_request, with_parameters, parameters_of, crossing_count, outcome_of, IsOutcomeAt}
+use Rattle.wrt_commands.specs.Outcomes.{ended, reads, done, refused, opening, with_request, with_parameters, parameters_of, crossing_count, by_faces, outcome_of, IsOutcomeAt}
 use Rattle.wrt_commands.specs.Runs.{Written, IsUntouched, IsPart, Says, IsTold, IsInputRefusal, IsRefusedAs, RunsTo}
 
 -- a source that doesn't tell is told any bytes
@@ -58,6 +62,7 @@ input_refused words p left Memory opens h = let b = some_bytes left in (b.0, b.1
 input_refused words p left (Words fault) opens h = absurd h
 input_refused words p left (ParametersRefused fault) opens h = absurd h
 input_refused words p left (Text fault) opens h = absurd h
+input_refused words p left (NotPlanar faces wanted) opens h = absurd h
 input_refused words p left Crossings opens h = absurd h
 input_refused words p left WriteFault opens h = absurd h
 
@@ -66,8 +71,13 @@ by_count : (p : Parameters) (items : List Item) (many : Bool) → refused WriteF
 by_count p items true e = cc
 by_count p items false e = cc
 
+by_planar : (p : Parameters) (items : List Item) (reason : Option PlanarFault) → refused WriteFault ≢ by_faces p items reason
+by_planar p items None e = by_count p items (nat_lt 16 (crossing_count items)) e
+by_planar p items (Some (planar.NotPlanar faces wanted)) e = cc
+by_planar p items (Some planar.Memory) e = cc
+
 no_write_fault : (p : Parameters) (reading : Result (List Item) TextFault) → refused WriteFault ≢ outcome_of p reading
-no_write_fault p (Ok items) e = by_count p items (nat_lt 16 (crossing_count items)) e
+no_write_fault p (Ok items) e = by_planar p items (planar_refusal item_slots items) e
 no_write_fault p (Err fault) e = cc
 
 at_outcome : (words : List (List ℕ)) (p : Parameters) (bytes : List ℕ) (refusal : Refusal) → opening words ≡ reads p → IsOutcomeAt (reads p) bytes (refused refusal)
@@ -78,6 +88,7 @@ at_outcome words p bytes Memory opens h = tt
 at_outcome words p bytes (Words fault) opens h = rw opens h
 at_outcome words p bytes (ParametersRefused fault) opens h = rw opens h
 at_outcome words p bytes (Text fault) opens h = rw opens h
+at_outcome words p bytes (NotPlanar faces wanted) opens h = rw opens h
 at_outcome words p bytes Crossings opens h = rw opens h
 at_outcome words p bytes WriteFault opens h = ⊎_elim (λ long. absurd (cc)) (λ reading. no_write_fault p reading.1.0 reading.1.2) h
 
@@ -110,6 +121,7 @@ runs_refused words bytes ReadFault out err h kept says = (h.0, h.1, kept, says)
 runs_refused words bytes Memory out err h kept says = (kept, says)
 runs_refused words bytes WriteFault out err h kept says = absurd h
 runs_refused words bytes TooLong out err h kept says = (TooLong, h, refl, kept, says)
+runs_refused words bytes (NotPlanar faces wanted) out err h kept says = (NotPlanar faces wanted, h, refl, kept, says)
 runs_refused words bytes Crossings out err h kept says = (Crossings, h, refl, kept, says)
 runs_refused words bytes (Words fault) out err h kept says = (Words fault, h, refl, kept, says)
 runs_refused words bytes (ParametersRefused fault) out err h kept says = (ParametersRefused fault, h, refl, kept, says)

@@ -1,5 +1,5 @@
 -- What a run comes to, by its words and the bytes of its input, in the one order of refusals: the words, the parameters, the
--- length, the text with its items and labels, the crossings. The first refusal stands; without one the report does.
+-- length, the text with its items and labels, the faces, the crossings. The first refusal stands; without one the report does.
 -- (This project's own; made of the definitions of the layers below.)
 --
 --     parameters_of numbers              the parameters that the numbers are, or the first reason against them
@@ -25,6 +25,10 @@ use Rattle.pd_reader.specs.Diagrams as diagrams
 use Rattle.pd_reader.specs.Texts.{IsPdText}
 use Rattle.pd_reader.specs.Answers.{IsPdRefusal}
 use Rattle.pd_reader.specs.Faults.{NamesByte}
+use Rattle.planar_check.specs.declared.fault.PlanarFault.{PlanarFault}
+use Rattle.planar_check.specs.declared.fault.PlanarFault.TheVariants as planar
+use Rattle.planar_check.specs.Places.{item_slots}
+use Rattle.planar_check.specs.Planar.{planar_refusal}
 use Rattle.skein_network.specs.Brackets.{bracket}
 use Rattle.wrt_request.specs.declared.request.Numbers.{Numbers}
 use Rattle.wrt_request.specs.declared.request.Request.{Request}
@@ -34,7 +38,7 @@ use Rattle.wrt_request.specs.Requests.{request_of}
 use Rattle.wrt_commands.specs.declared.parameters.ParametersFault.{ParametersFault}
 use Rattle.wrt_commands.specs.declared.parameters.ParametersFault.TheVariants.{Modulus, Root, Level, Order}
 use Rattle.wrt_commands.specs.declared.refusal.Refusal.{Refusal}
-use Rattle.wrt_commands.specs.declared.refusal.Refusal.TheVariants.{Words, Parameters as ParametersRefused, TooLong, Text, Crossings, Memory}
+use Rattle.wrt_commands.specs.declared.refusal.Refusal.TheVariants.{Words, Parameters as ParametersRefused, TooLong, Text, NotPlanar, Crossings, Memory}
 use Rattle.wrt_commands.specs.Reports.{report_of}
 
 -- R as a level: past 32 bits it is out of range anyway.
@@ -93,9 +97,19 @@ is_crossing (Loop label) = false
 abbrev pub crossing_count : List Item → ℕ
 crossing_count items = count_by is_crossing items
 
+-- The refusal of a diagram that isn't planar.
+abbrev pub of_planar : PlanarFault → Refusal
+of_planar (planar.NotPlanar faces wanted) = NotPlanar faces wanted
+of_planar planar.Memory = Memory
+
+-- What items come to, by the reason why they aren't planar.
+abbrev pub by_faces : Parameters → List Item → Option PlanarFault → Outcome
+by_faces p items (Some fault) = refused (of_planar fault)
+by_faces p items None = if nat_lt 16 (crossing_count items) then refused Crossings else done (report_of (bracket p items))
+
 -- What a reading comes to.
 abbrev pub outcome_of : Parameters → Result (List Item) TextFault → Outcome
-outcome_of p (Ok items) = if nat_lt 16 (crossing_count items) then refused Crossings else done (report_of (bracket p items))
+outcome_of p (Ok items) = by_faces p items (planar_refusal item_slots items)
 outcome_of p (Err fault) = refused (Text fault)
 
 -- What bytes come to, where the words come to an opening.

@@ -59,6 +59,7 @@ IsInputRefusal left refusals.Memory = Unit {0}
 IsInputRefusal left (refusals.Words fault) = ⊥
 IsInputRefusal left (refusals.Parameters fault) = ⊥
 IsInputRefusal left (refusals.Text fault) = ⊥
+IsInputRefusal left (refusals.NotPlanar faces wanted) = ⊥
 IsInputRefusal left refusals.Crossings = ⊥
 IsInputRefusal left refusals.WriteFault = ⊥
 
@@ -71,6 +72,7 @@ IsRefusedAs words bytes (refusals.Words fault) = IsOutcome words bytes (refused 
 IsRefusedAs words bytes (refusals.Parameters fault) = IsOutcome words bytes (refused (refusals.Parameters fault))
 IsRefusedAs words bytes refusals.TooLong = IsOutcome words bytes (refused refusals.TooLong)
 IsRefusedAs words bytes (refusals.Text fault) = IsOutcome words bytes (refused (refusals.Text fault))
+IsRefusedAs words bytes (refusals.NotPlanar faces wanted) = IsOutcome words bytes (refused (refusals.NotPlanar faces wanted))
 IsRefusedAs words bytes refusals.Crossings = IsOutcome words bytes (refused refusals.Crossings)
 
 -- The run is refused for what the outcome says.

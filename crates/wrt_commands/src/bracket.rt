@@ -5,7 +5,7 @@ ghost use Rattle.skein_network.specs.Brackets.{bracket};
 ghost use Rattle.wrt_commands.specs.declared.refusal.Refusal.TheVariants as refusals;
 ghost use Rattle.wrt_commands.specs.Outcomes.{crossing_count, IsOutcomeAt, reads, done, refused};
 
-use crate::input::read_diagram;
+use crate::input::{check_planar, read_diagram};
 use crate::refusal::Refusal;
 use pd_reader::{Diagram, Item};
 use plain_sum::plain_sum;
@@ -54,7 +54,8 @@ pub(crate) fn bracket_report(
         (λ refusal. (refusal ≡ refusals.Memory) ⊎ IsOutcomeAt (reads params.now) bytes.now (refused refusal)) }
 {
     let diagram = read_diagram(alloc, bytes)?;
-    let value = bracket_value(alloc, params, &diagram)?;
+    let planar = check_planar(alloc, diagram)?;
+    let value = bracket_value(alloc, params, planar.diagram())?;
     match format!(in alloc; "{value}\n") {
         Ok(report) => Ok(report),
         Err(_) => Err(Refusal::Memory),

@@ -1,13 +1,17 @@
-//! The diagram on the input.
+//! The planar diagram on the input.
 
-ghost use Rattle.std.specs.Prelude.{◌≡◌, ◌≢◌, Ok, Err, MatchResult, OnOk, IfSome, []};
+ghost use Rattle.std.specs.Prelude.{◌≡◌, ◌≢◌, ◌⊎◌, Ok, Err, Some, None, MatchResult, OnOk, IfSome, []};
 ghost use Rattle.skein_io.specs.Faults.{Rose};
 ghost use Rattle.wrt_commands.specs.declared.refusal.Refusal.TheVariants as refusals;
-ghost use Rattle.wrt_commands.specs.Outcomes.{IsReading, IsTextRefusal};
+ghost use Rattle.wrt_commands.specs.Outcomes.{IsReading, IsTextRefusal, of_planar};
+ghost use Rattle.planar_check.specs.declared.fault.PlanarFault.{PlanarFault};
+ghost use Rattle.planar_check.specs.Places.{item_slots};
+ghost use Rattle.planar_check.specs.Planar.{planar_refusal};
 ghost use Rattle.wrt_commands.specs.Runs.{IsInput, IsInputRefusal};
 
 use crate::refusal::Refusal;
 use pd_reader::{Diagram, TextFault, read_pd};
+use planar_check::{Planar, PlanarFault, check};
 use skein_io::{ReadAll, Source, read_all};
 use std::alloc::Global;
 
@@ -37,5 +41,17 @@ pub(crate) fn read_diagram(alloc: Global, bytes: &[u8]) -> Result<Diagram, Refus
         Ok(diagram) => Ok(diagram),
         Err(TextFault::Memory) => Err(Refusal::Memory),
         Err(fault) => Err(Refusal::Text(fault)),
+    }
+}
+
+/// The diagram, planar, or how many faces it has.
+pub(crate) fn check_planar(alloc: Global, diagram: Diagram) -> Result<Planar, Refusal>
+    ensures { MatchResult result (λ planar. (planar ≡ diagram) × (planar_refusal item_slots diagram ≡ None))
+        (λ refusal. (refusal ≡ refusals.Memory) ⊎ ((fault : PlanarFault) × (refusal ≡ of_planar fault) × (planar_refusal item_slots diagram ≡ Some fault))) }
+{
+    match check(alloc, diagram) {
+        Ok(planar) => Ok(planar),
+        Err(PlanarFault::NotPlanar { faces, wanted }) => Err(Refusal::NotPlanar { faces, wanted }),
+        Err(PlanarFault::Memory) => Err(Refusal::Memory),
     }
 }

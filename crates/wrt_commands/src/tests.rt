@@ -21,7 +21,7 @@ const BRACKET: &[&str] = &["bracket", "41", "2", "5"];
 
 /// Modulus 41, A = 2, level 5, so that a loop is worth 6. The values are sums over states, worked by hand and by
 /// an independent program.
-const ROWS: [Row; 18] = [
+const ROWS: [Row; 19] = [
     (BRACKET, b"PD[]", Status::Done, b"1\n", b""),
     (BRACKET, b"PD[Loop[1]]", Status::Done, b"6\n", b""),
     (BRACKET, b"PD[X[1,1,2,2]]", Status::Done, b"34\n", b""),
@@ -74,6 +74,13 @@ const ROWS: [Row; 18] = [
         Status::Input,
         b"",
         b"wrtcalc: number refused at byte 4\n",
+    ),
+    (
+        BRACKET,
+        b"PD[X[1,2,1,2]]",
+        Status::Input,
+        b"",
+        b"wrtcalc: not planar: 1 faces, 3 wanted\n",
     ),
     (
         BRACKET,
