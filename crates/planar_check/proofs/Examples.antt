@@ -1,12 +1,15 @@
 -- The definitions, computed at worked values.
-use Rattle.std.proofs.Common.{◌≡◌, ℕ, List, [], ◌∷◌, map, Some, None, refl}
+use Rattle.std.proofs.Common.{◌≡◌, ℕ, List, [], ◌∷◌, map, Some, None, refl, pos, negsuc}
 use Rattle.std.specs.List.{range_with_len}
 use Rattle.planar_check.specs.declared.fault.PlanarFault.TheVariants.{NotPlanar}
+use Rattle.pd_reader.specs.declared.item.Item.{Item}
 use Rattle.pd_reader.specs.declared.item.Item.TheVariants.{X, Loop}
 use Rattle.pd_reader.specs.declared.item.NetItem.TheVariants.{Y}
 use Rattle.graph_parts.specs.Parts.{part_count, part}
 use Rattle.planar_check.specs.Places.{item_slots, net_item_slots, labels_by_place, turned_places, other_place, other_places}
 use Rattle.graph_parts.specs.LeastNames.{least_name}
+use Rattle.planar_check.specs.Components.{least_of, least_labels, component_of}
+use Rattle.planar_check.specs.Signs.{walk_of, writhe, sign_sum}
 use Rattle.planar_check.specs.Faces.{faces}
 use Rattle.planar_check.specs.Planar.{next_place, face_count, piece_count, edge_count, wanted_faces, planar_refusal}
 
@@ -46,3 +49,43 @@ twisted_theta = refl
 curls : planar_refusal item_slots (X (1 ∷ 1 ∷ 2 ∷ 2 ∷ []) ∷ Loop 5 ∷ X (3 ∷ 4 ∷ 4 ∷ 3 ∷ []) ∷ []) ≡ None
 unfolding face_count wanted_faces piece_count edge_count other_place part_count part
 curls = refl
+
+-- the components of the trefoil, of the Hopf link, and of a chain of three with a loop
+hopf : List Item
+hopf = X (2 ∷ 4 ∷ 3 ∷ 1 ∷ []) ∷ X (4 ∷ 2 ∷ 1 ∷ 3 ∷ []) ∷ []
+
+trefoil_items : List Item
+trefoil_items = X (1 ∷ 4 ∷ 2 ∷ 5 ∷ []) ∷ X (3 ∷ 6 ∷ 4 ∷ 1 ∷ []) ∷ X (5 ∷ 2 ∷ 6 ∷ 3 ∷ []) ∷ []
+
+chain : List Item
+chain = X (1 ∷ 6 ∷ 2 ∷ 5 ∷ []) ∷ X (6 ∷ 3 ∷ 5 ∷ 2 ∷ []) ∷ X (3 ∷ 8 ∷ 4 ∷ 7 ∷ []) ∷ X (8 ∷ 1 ∷ 7 ∷ 4 ∷ []) ∷ []
+
+trefoil_components : least_labels trefoil_items ≡ 1 ∷ []
+unfolding trefoil_items least_labels least_of least_name part
+trefoil_components = refl
+
+hopf_components : map (component_of hopf) (1 ∷ 2 ∷ 3 ∷ 4 ∷ 5 ∷ []) ≡ Some 1 ∷ Some 2 ∷ Some 2 ∷ Some 1 ∷ None ∷ []
+unfolding hopf least_labels least_of least_name part
+hopf_components = refl
+
+chain_components : least_labels (Loop 9 ∷ chain) ≡ 1 ∷ 5 ∷ 7 ∷ 9 ∷ []
+unfolding chain least_labels least_of least_name part
+chain_components = refl
+
+trefoil_writhe : writhe trefoil_items 1 ≡ negsuc 2
+unfolding trefoil_items writhe walk_of other_place least_labels least_of least_name part
+trefoil_writhe = refl
+
+-- the figure eight
+figure_eight_writhe : writhe (X (4 ∷ 2 ∷ 5 ∷ 1 ∷ []) ∷ X (8 ∷ 6 ∷ 1 ∷ 5 ∷ []) ∷ X (6 ∷ 3 ∷ 7 ∷ 4 ∷ []) ∷ X (2 ∷ 7 ∷ 3 ∷ 8 ∷ []) ∷ []) 1 ≡ pos 0
+unfolding writhe walk_of other_place least_labels least_of least_name part
+figure_eight_writhe = refl
+
+-- the Hopf link and the chain of three: the sum is twice the linking number
+hopf_linking : sign_sum hopf 1 2 ≡ pos 2
+unfolding hopf sign_sum walk_of other_place least_labels least_of least_name part
+hopf_linking = refl
+
+chain_linking : map (λ j. sign_sum chain 1 j) (2 ∷ 3 ∷ []) ≡ pos 2 ∷ pos 2 ∷ []
+unfolding chain sign_sum walk_of other_place least_labels least_of least_name part
+chain_linking = refl

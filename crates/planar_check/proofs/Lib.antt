@@ -4,3 +4,4 @@ mod Others
 mod Counts
 mod PlaceLists
 mod Cycles
+mod Strands

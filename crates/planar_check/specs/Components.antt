@@ -12,7 +12,7 @@
 --     component_of items label   that number, or nothing where the label is not in the diagram
 --
 -- The Hopf link X[2,4,3,1] X[4,2,1,3] has the components 1,4 and 2,3, with the least labels 1 and 2.
-use Rattle.std.specs.Prelude.{ℕ, ◌+◌, ◌==◌, ◌&&◌, Bool, nat_le, max, if◌then◌else◌, List, [], ◌∷◌, ◌++◌, length, slice_index, count_by, Option, Some, None}
+use Rattle.std.specs.Prelude.{ℕ, ◌+◌, ◌==◌, ◌≡◌, ◌<◌, ◌^◌, ◌&&◌, Bool, nat_le, max, map, if◌then◌else◌, List, [], ◌∷◌, ◌++◌, length, slice_index, count_by, Option, Some, None}
 use Rattle.std.specs.List.{filter, range_with_len}
 use Rattle.std.specs.Set.{is_member}
 use Rattle.graph_parts.specs.LeastNames.{least_name}
@@ -54,3 +54,10 @@ number_of items label = count_by (λ least. nat_le least (least_of items label))
 -- that number, for a label of the diagram
 abbrev pub component_of : List Item → ℕ → Option ℕ
 component_of items label = if is_member ◌==◌ (labels item_labels items) label then Some (number_of items label) else None
+
+-- the labels of a diagram's items, the least label of each one's component, and those of all components
+pub record AreComponents (items : List Item) (labels_found leasts firsts : List ℕ) : Type 0 where
+  pub labels_are : labels_found ≡ labels item_labels items
+  pub leasts_are : leasts ≡ map (least_of items) (labels item_labels items)
+  pub firsts_are : firsts ≡ least_labels items
+  pub few : length firsts < 2 ^ 32

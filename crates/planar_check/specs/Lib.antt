@@ -2,3 +2,4 @@ pub mod Places
 pub mod Planar
 pub mod Faces
 pub mod Components
+pub mod Signs

@@ -1,6 +1,8 @@
-//! Faces, connected pieces and planarity of diagrams and nets, by Euler's formula.
+//! Faces, connected pieces and planarity of diagrams and nets, by Euler's formula; the components of
+//! planar diagrams.
 #![tactic(auto)]
 
+mod component;
 mod count;
 mod face;
 mod fault;

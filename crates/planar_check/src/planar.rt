@@ -1,9 +1,11 @@
 //! Diagrams and nets that were found planar.
 
-ghost use Rattle.std.specs.Prelude.{◌≡◌, ◌⊎◌, ◌≤◌, None, Some, length, IfOk, IfErr, OnOk};
+ghost use Rattle.std.specs.Prelude.{◌≡◌, ◌⊎◌, ◌≤◌, ◌-◌, slice_index, None, Some, length, IfOk, IfErr, OnOk};
 ghost use Rattle.planar_check.specs.Places.{crossings, item_slots, net_item_slots};
+ghost use Rattle.planar_check.specs.Components.{component_of, least_labels};
 ghost use Rattle.planar_check.specs.Planar.{face_count, wanted_faces, planar_refusal, IsPlanar};
 
+use crate::component::{Components, component_of};
 use crate::count::{count_edges, count_faces, count_pieces};
 use crate::fault::PlanarFault;
 use crate::other::other_places;
@@ -61,6 +63,7 @@ fn check_items<I: Placed>(alloc: Global, items: &[I]) -> Result<(), PlanarFault>
 #[derive(Drop, Debug)]
 pub struct Planar {
     diagram: Diagram,
+    components: Components,
 }
 
 impl Model for Planar {
@@ -73,8 +76,10 @@ impl Model for Planar {
 
     ghost use Rattle.planar_check.specs.Places.{item_slots};
     ghost use Rattle.planar_check.specs.Planar.{IsPlanar};
+    ghost use Rattle.planar_check.specs.Components.{AreComponents};
 
-    ghost invariant = { λ planar. IsPlanar item_slots planar.diagram };
+    ghost invariant = { λ planar. IsPlanar item_slots planar.diagram
+        × AreComponents planar.diagram planar.components.labels.items planar.components.leasts.items planar.components.firsts.items };
 }
 
 /// The diagram, where it is planar: where it has E - N + 2k faces, for E edges between places, N
@@ -89,7 +94,11 @@ pub fn check(alloc: Global, diagram: Diagram) -> Result<Planar, PlanarFault>
     ensures refused { IfErr result (λ fault. (fault ≡ PlanarFault.Memory) ⊎ (planar_refusal item_slots diagram ≡ Some fault)) }
 {
     check_items(alloc, diagram.items())?;
-    Ok(Planar { diagram })
+    let components = Components::of(alloc, diagram.items())?;
+    Ok(Planar {
+        diagram,
+        components,
+    })
 }
 
 impl Planar {
@@ -99,6 +108,38 @@ impl Planar {
         ensures planar { IsPlanar item_slots self.now }
     {
         &self.diagram
+    }
+
+    /// How many components there are: one for each class of labels that are reached by walking straight
+    /// on at crossings, and one for each loop.
+    pub fn components(&self) -> u32
+        ensures { result ≡ length (least_labels self.now) }
+    {
+        self.components.firsts.len() as u32
+    }
+
+    /// The component of the label, or `None` where the label is not in the diagram.
+    ///
+    /// Components are numbered from 1 in the order of their least labels: in the Hopf link `X[2,4,3,1]`,
+    /// `X[4,2,1,3]` the labels 1 and 4 have the component 1, 2 and 3 the component 2.
+    pub fn component_of(&self, label: u32) -> Option<u32>
+        ensures { result ≡ component_of self.now label }
+    {
+        component_of(
+            &self.components.labels,
+            &self.components.leasts,
+            &self.components.firsts,
+            label,
+        )
+    }
+
+    /// The least label of a component, which is 1 to `components()`.
+    pub fn least_label(&self, component: u32) -> u32
+        requires first { 1 ≤ component }
+        requires last { component ≤ length (least_labels self.now) }
+        ensures { result ≡ slice_index (least_labels self.now) (component - 1) }
+    {
+        self.components.firsts[component as usize - 1]
     }
 }
 

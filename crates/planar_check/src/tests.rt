@@ -58,6 +58,49 @@ const FACES: [(&[u8], &[&[u32]]); 3] = [
     (b"PD[Loop[1]]", &[]),
 ];
 
+/// Text and the least label of each component, in order.
+const COMPONENTS: [(&[u8], &[u32]); 6] = [
+    (b"PD[]", &[]),
+    (TREFOIL, &[1]),
+    (b"PD[X[2,4,3,1],X[4,2,1,3]]", &[1, 2]),
+    (b"PD[Loop[7],Loop[2]]", &[2, 7]),
+    (b"PD[X[1,1,2,2],Loop[5],X[3,4,4,3]]", &[1, 3, 5]),
+    (
+        b"PD[X[1,6,2,5],X[6,3,5,2],X[3,8,4,7],X[8,1,7,4],Loop[9]]",
+        &[1, 5, 7, 9],
+    ),
+];
+
+/// The component of each label of the Hopf link, and of one that it does not have.
+const HOPF: [(u32, Option<u32>); 5] = [
+    (1, Some(1)),
+    (2, Some(2)),
+    (3, Some(2)),
+    (4, Some(1)),
+    (5, None),
+];
+
+#[test]
+fn components(rt: HostRuntime) -> Result<(), Fail> {
+    for (text, leasts) in COMPONENTS {
+        let planar = check(rt.alloc(), read_pd(rt.alloc(), text)?)?;
+        assert_eq!(rt; planar.components() as usize, leasts.len());
+        for before in 0..planar.components() {
+            let least = planar.least_label(before + 1);
+            assert_eq!(rt; leasts.get(before as usize).copied(), Some(least));
+            assert_eq!(rt; planar.component_of(least), Some(before + 1));
+        }
+    }
+    let hopf = check(
+        rt.alloc(),
+        read_pd(rt.alloc(), b"PD[X[2,4,3,1],X[4,2,1,3]]")?,
+    )?;
+    for (label, component) in HOPF {
+        assert_eq!(rt; hopf.component_of(label), component);
+    }
+    Ok(())
+}
+
 #[test]
 fn worked_rows(rt: HostRuntime) -> Result<(), Fail> {
     for (text, fault) in DIAGRAMS {
