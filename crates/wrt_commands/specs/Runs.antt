@@ -5,8 +5,9 @@
 --     IsUntouched w, IsWhole w bytes, IsPart w bytes      nothing was appended; the bytes were; a fault came after a part of them
 --     Says w line                   the line was appended whole where the count didn't rise, and otherwise a part of it
 --     IsTold left bytes             the source tells these bytes, or tells none
+--     IsAtEnd before after          nothing is left in a source that tells what is left
 --     RunsTo words bytes status out err
-use Rattle.std.specs.Prelude.{◌≡◌, ◌⊎◌, ℕ, ◌<◌, ◌≤◌, List, length, take, Option, Some, None}
+use Rattle.std.specs.Prelude.{◌≡◌, ◌⊎◌, ℕ, ◌<◌, ◌≤◌, List, [], length, take, Option, Some, None}
 use Rattle.skein_io.specs.Faults.{Rose}
 use Rattle.skein_io.specs.Sink.{Appends}
 use Rattle.wrt_commands.specs.declared.refusal.Refusal.{Refusal}
@@ -47,6 +48,11 @@ Says w line = IsWhole w line ⊎ IsPart w line
 abbrev pub IsTold : Option (List ℕ) → List ℕ → Type 0
 IsTold None bytes = Unit {0}
 IsTold (Some left) bytes = bytes ≡ left
+
+-- Nothing is left in a source that tells what is left.
+abbrev pub IsAtEnd : Option (List ℕ) → Option (List ℕ) → Type 0
+IsAtEnd None after = after ≡ None
+IsAtEnd (Some left) after = after ≡ Some []
 
 -- What the reading of an input gives: all its bytes, within the limit, or a refusal.
 abbrev pub IsInput : Option (List ℕ) → List ℕ → Type 0

@@ -1,13 +1,14 @@
 //! The planar diagram on the input.
 
-ghost use Rattle.std.specs.Prelude.{◌≡◌, ◌≢◌, ◌⊎◌, Ok, Err, Some, None, MatchResult, OnOk, IfSome, []};
+ghost use Rattle.std.specs.Prelude.{◌≡◌, ◌≢◌, ◌⊎◌, Ok, Err, Some, None, MatchResult, OnOk, ◌≤◌};
 ghost use Rattle.skein_io.specs.Faults.{Rose};
+ghost use Rattle.skein_io.specs.Source.{IsSuffix};
 ghost use Rattle.wrt_commands.specs.declared.refusal.Refusal.TheVariants as refusals;
 ghost use Rattle.wrt_commands.specs.Outcomes.{IsReading, IsTextRefusal, of_planar};
 ghost use Rattle.planar_check.specs.declared.fault.PlanarFault.{PlanarFault};
 ghost use Rattle.planar_check.specs.Places.{item_slots};
 ghost use Rattle.planar_check.specs.Planar.{planar_refusal};
-ghost use Rattle.wrt_commands.specs.Runs.{IsInput, IsInputRefusal};
+ghost use Rattle.wrt_commands.specs.Runs.{IsInput, IsInputRefusal, IsAtEnd};
 
 use crate::refusal::Refusal;
 use pd_reader::{Diagram, TextFault, read_pd};
@@ -21,7 +22,9 @@ const MOST_BYTES: usize = 1_048_576;
 /// All bytes of the source, at most 1,048,576.
 pub(crate) fn read_input<S: Source>(alloc: Global, source: &mut S) -> Result<Vec<u8>, Refusal>
     ensures answer { MatchResult result (λ bytes. IsInput (S.left source.old) bytes.items) (IsInputRefusal (S.left source.old)) }
-    ensures end { OnOk result (IfSome (S.left source.new) (λ left. left ≡ [])) }
+    ensures end { OnOk result (IsAtEnd (S.left source.old) (S.left source.new)) }
+    ensures suffix { IsSuffix (S.left source.new) (S.left source.old) }
+    ensures never_falls { S.faults source.old ≤ S.faults source.new }
     ensures read_fault { result ≡ Err refusals.ReadFault → Rose (S.faults source.old) (S.faults source.new) }
     ensures no_fault { result ≢ Err refusals.ReadFault → S.faults source.new ≡ S.faults source.old }
 {

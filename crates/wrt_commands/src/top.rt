@@ -1,12 +1,13 @@
 //! The top call.
 
-ghost use Rattle.std.specs.Prelude.{◌≡◌, ◌≢◌, ◌⊎◌, ℕ, List, [], Some, IfOk, IfSome, OnOk, MatchResult, map, string_bytes};
+ghost use Rattle.std.specs.Prelude.{◌≡◌, ◌≢◌, ◌⊎◌, ◌≤◌, ℕ, List, [], Some, IfOk, OnOk, MatchResult, map, string_bytes};
 ghost use Rattle.skein_io.specs.Faults.{Rose};
+ghost use Rattle.skein_io.specs.Source.{IsSuffix};
 ghost use Rattle.wrt_commands.specs.declared.refusal.Refusal.{Refusal};
 ghost use Rattle.wrt_commands.specs.declared.refusal.Refusal.TheVariants as refusals;
 ghost use Rattle.wrt_commands.specs.Reports.{status_of, fault_line};
 ghost use Rattle.wrt_commands.specs.Outcomes.{opening, ended, reads, done, refused, IsOutcome};
-ghost use Rattle.wrt_commands.specs.Runs.{IsTold, IsRefusedAs, RunsTo, Says, written};
+ghost use Rattle.wrt_commands.specs.Runs.{IsAtEnd, IsTold, IsRefusedAs, RunsTo, Says, written};
 
 use crate::bracket::bracket_report;
 use crate::input::read_input;
@@ -35,7 +36,9 @@ fn open_words(words: &[&str]) -> Result<Params, Refusal>
 fn report<S: Source>(alloc: Global, words: &[&str], source: &mut S) -> Result<String, Refusal>
     ensures answer { (bytes : List ℕ) × IsTold (S.left source.old) bytes × MatchResult result (λ report. IsOutcome (map (λ s. s.now) words.now) bytes (done (string_bytes report)))
         (IsRefusedAs (map (λ s. s.now) words.now) bytes) }
-    ensures end { OnOk result (IfSome (S.left source.new) (λ left. left ≡ [])) }
+    ensures end { OnOk result (IsAtEnd (S.left source.old) (S.left source.new)) }
+    ensures suffix { IsSuffix (S.left source.new) (S.left source.old) }
+    ensures never_falls { S.faults source.old ≤ S.faults source.new }
     ensures read_fault { result ≡ Err refusals.ReadFault → Rose (S.faults source.old) (S.faults source.new) }
     ensures no_fault { result ≢ Err refusals.ReadFault → S.faults source.new ≡ S.faults source.old }
     ensures unread { (refusal : Refusal) → opening (map (λ s. s.now) words.now) ≡ ended refusal → (S.left source.new ≡ S.left source.old) × (S.faults source.new ≡ S.faults source.old) }
@@ -54,7 +57,8 @@ fn fault_line(alloc: Global, refusal: &Refusal) -> Result<String, AllocError>
 
 /// Writes the line to `err`. A fault of `err` changes nothing else.
 fn say<E: Sink>(err: &mut E, line: &[u8])
-    ensures { Says (written (E.taken err.old) (E.taken err.new) (E.faults err.old) (E.faults err.new)) line.now }
+    ensures never_falls { E.faults err.old ≤ E.faults err.new }
+    ensures says { Says (written (E.taken err.old) (E.taken err.new) (E.faults err.old) (E.faults err.new)) line.now }
 {
     let _ = write_all(err, line);
 }
@@ -62,7 +66,8 @@ fn say<E: Sink>(err: &mut E, line: &[u8])
 /// Writes the fault line of the refusal, and gives the status with which the run ends: that of the
 /// refusal, or want of memory where there is none for the line.
 fn refuse<E: Sink>(alloc: Global, err: &mut E, refusal: &Refusal) -> Status
-    ensures { ((result ≡ status_of refusal.now)
+    ensures never_falls { E.faults err.old ≤ E.faults err.new }
+    ensures says { ((result ≡ status_of refusal.now)
         × Says (written (E.taken err.old) (E.taken err.new) (E.faults err.old) (E.faults err.new)) (fault_line refusal.now))
         ⊎ ((result ≡ Status.Memory)
         × Says (written (E.taken err.old) (E.taken err.new) (E.faults err.old) (E.faults err.new)) (fault_line refusals.Memory)) }
@@ -95,8 +100,12 @@ pub fn run<S: Source, K: Sink, E: Sink>(
         (written (K.taken out.old) (K.taken out.new) (K.faults out.old) (K.faults out.new))
         (written (E.taken err.old) (E.taken err.new) (E.faults err.old) (E.faults err.new)) }
 
-    // At `Done` the source was read to its end.
-    ensures end { result ≡ Status.Done → IfSome (S.left source.new) (λ left. left ≡ []) }
+    // At `Done` the source was read to its end; at every status what is left is the end of what was left.
+    ensures end { result ≡ Status.Done → IsAtEnd (S.left source.old) (S.left source.new) }
+    ensures suffix { IsSuffix (S.left source.new) (S.left source.old) }
+
+    // No count of faults falls.
+    ensures never_falls { (S.faults source.old ≤ S.faults source.new) × (K.faults out.old ≤ K.faults out.new) × (E.faults err.old ≤ E.faults err.new) }
 
     // A read fault is a fault of the source, in this call; without one, and with memory, its count stays.
     ensures read_fault { result ≡ Status.ReadFault → Rose (S.faults source.old) (S.faults source.new) }

@@ -1,4 +1,4 @@
-use Rattle.std.proofs.Common.{◌≡◌, ◌∙◌, sym}
+use Rattle.std.proofs.Common.{◌∙◌, sym}
 use Rattle.std.proofs.lemmas.Result.{err_from_is_err_and}
 use Rattle.wrt_commands.proofs.OutcomeLemmas.{text_outcome, planar_outcome, crossings_outcome, value_outcome}
 use Rattle.wrt_commands.proofs.bracket.bracket_report.Goals as goal

@@ -10,7 +10,7 @@ returns-in-Ok-clause-outcome g c =
     let a = c.in-Ok.ensures.answer in
     let w = c.write_all.ensures in
     let part = part_law _ c.as_bytes.result.now c.write_all.result c.in-Err-Fault.field-0 c.in-Err-Fault.is w.fault w.sent w.short in
-    (a.0, a.1, (string_bytes c.in-Ok.report, a.2, rw (sym c.as_bytes.ensures.value) part, c.say.ensures))
+    (a.0, a.1, (string_bytes c.in-Ok.report, a.2, rw (sym c.as_bytes.ensures.value) part, c.say.ensures.says))
 
 pub returns-clause-outcome : goal.returns-clause-outcome
 returns-clause-outcome g c =
@@ -18,7 +18,7 @@ returns-clause-outcome g c =
     ⊎_elim
     (λ r. (a.0, a.1, rw r.0 (runs_refused _ a.0 c.in-Err.refusal _ _ a.2 (refl, refl) r.1)))
     (λ r. (a.0, a.1, rw r.0 ((refl, refl), r.1)))
-    c.refuse.ensures
+    c.refuse.ensures.says
 
 pub returns-clause-complete : goal.returns-clause-complete
 returns-clause-complete g c = λ bytes report tells outcome read write.
@@ -27,5 +27,5 @@ returns-clause-complete g c = λ bytes report tells outcome read write.
     ⊎_elim
     (λ r. c.report.ensures.read_fault (c.in-Err.is ∙ ap Err (status-read_fault c.in-Err.refusal (sym r.0 ∙ e))))
     (λ r. let memory = r.0 in absurd (cc))
-    c.refuse.ensures in
+    c.refuse.ensures.says in
     completes _ _ bytes h.0 report c.refuse.result _ _ tells h.1 outcome h.2 (λ e. read (rose e)) write
