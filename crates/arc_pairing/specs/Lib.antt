@@ -1,3 +1,5 @@
 pub mod Pairings
+pub mod Codes
+pub mod Gluing
 pub mod Counts
 pub mod Nodes

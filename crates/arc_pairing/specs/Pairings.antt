@@ -11,7 +11,9 @@
 --     IsPairedAt partner i          the partner of point i is another point, which names it back
 --     IsFirstUnpaired partner i     i is the least point that is not paired; for 1,0,3 it is 2
 --     IsShortPairing partner        a pairing of at most 24 points
-use Rattle.std.specs.Prelude.{◌≡◌, ◌≢◌, ℕ, ◌<◌, ◌≤◌, List, length, slice_index}
+--     mirrored partner              the mirror image: point i becomes point n-1-i of n
+--     IsNoncrossing partner         no two pairs cross: none have their points in turn, one of the first, one of the second
+use Rattle.std.specs.Prelude.{◌≡◌, ◌≢◌, ℕ, ◌-◌, ◌<◌, ◌≤◌, List, length, map, reverse, slice_index}
 use Rattle.state_sums.specs.Networks.{IsPairing}
 
 -- The partner of point i is another point, which names it back.
@@ -29,3 +31,11 @@ pub record IsFirstUnpaired (partner : List ℕ) (i : ℕ) : Type 0 where
 pub record IsShortPairing (partner : List ℕ) : Type 0 where
   pub short : length partner ≤ 24
   pub paired : IsPairing partner
+
+-- Point i becomes point n-1-i of n.
+abbrev pub mirrored : List ℕ → List ℕ
+mirrored partner = map (λ other. length partner - 1 - other) (reverse partner)
+
+-- No pair has one of its points between those of another pair and one past them.
+abbrev pub IsNoncrossing : List ℕ → Type 0
+IsNoncrossing partner = (i j : ℕ) → i < j → j < slice_index partner i → slice_index partner i < slice_index partner j → ⊥

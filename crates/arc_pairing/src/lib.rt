@@ -4,13 +4,22 @@
 //! of these; a network is a list of nodes in which every name stands exactly twice.
 #![tactic(auto)]
 
+mod code;
 mod fault;
+mod gluing;
+mod laws;
 mod names;
 mod network;
 mod node;
 mod pairing;
+mod seam;
+#[cfg(test)]
+mod tests;
 
 pub use fault::{NetworkFault, NodeFault, PairingFault};
+pub use gluing::{Glued, Turns, glue};
+pub use laws::one_code;
 pub use network::Network;
 pub use node::{Node, Term};
 pub use pairing::Pairing;
+pub use seam::{Seam, TooWide};

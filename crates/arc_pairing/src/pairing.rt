@@ -2,7 +2,7 @@
 
 ghost use Rattle.std.specs.Prelude.{◌≡◌, ◌<◌, ◌≤◌, ◌↔◌, ℕ, length, slice_index, IsTrue, IsOk, IfOk};
 ghost use Rattle.state_sums.specs.Networks.{IsPairing};
-ghost use Rattle.arc_pairing.specs.Pairings.{IsPairedAt, IsFirstUnpaired, IsShortPairing};
+ghost use Rattle.arc_pairing.specs.Pairings.{IsPairedAt, IsFirstUnpaired, IsShortPairing, mirrored, IsNoncrossing};
 
 use crate::fault::PairingFault;
 use arrayvec::ArrayVec;
@@ -11,10 +11,11 @@ use std::marker::Model;
 /// A pairing of at most 24 points, numbered from 0 (Lickorish, ch. 13).
 ///
 /// Contracts see a pairing as the list of partners. Its type keeps that every point has a partner,
-/// which is another point and names it back.
-#[derive(Drop)]
+/// which is another point and names it back. Pairings are ordered as these lists are, in dictionary
+/// order: 1,0,3,2 is less than 2,3,0,1, and 1,0 is less than both.
+#[derive(Drop, Debug, PartialEq, Eq, PartialOrd, Ord)]
 pub struct Pairing {
-    partners: ArrayVec<u8, 24>,
+    pub(crate) partners: ArrayVec<u8, 24>,
 }
 
 impl Model for Pairing {
@@ -24,6 +25,8 @@ impl Model for Pairing {
     ghost Value = { List ℕ };
 
     ghost view = { λ pairing. pairing.partners.items };
+
+    ghost inverse = { λ partner. record { partners = record { items = partner } } };
 
     ghost invariant = { λ pairing. IsShortPairing pairing.partners.items };
 }
@@ -105,5 +108,35 @@ impl Pairing {
             partners.push(*other);
         }
         Pairing { partners }
+    }
+
+    /// The mirror image, in which point i becomes point n-1-i of n. It takes no memory.
+    pub fn mirror(&self) -> Pairing
+        ensures value { result ≡ mirrored self.now }
+        ensures pairing { IsShortPairing self.now }
+    {
+        let points = self.partners();
+        let mut partners = ArrayVec::new();
+        for at in 0..points.len() {
+            let other = points[points.len() - 1 - at];
+            partners.push(points.len() as u8 - 1 - other);
+        }
+        Pairing { partners }
+    }
+
+    /// Whether no two pairs cross: 3,2,1,0 and 1,0,3,2 are noncrossing, 2,3,0,1 is not. It takes no memory.
+    pub fn is_noncrossing(&self) -> bool
+        ensures { IsTrue result ↔ IsNoncrossing self.now }
+    {
+        let points = self.partners();
+        for at in 0..points.len() {
+            let other = usize::from(points[at]);
+            for between in at + 1..other {
+                if usize::from(points[between]) > other {
+                    return false;
+                }
+            }
+        }
+        true
     }
 }

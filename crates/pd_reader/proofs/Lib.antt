@@ -6,6 +6,6 @@ pub mod StopLemmas
 pub mod Readings
 mod Written
 mod ReadsBack
-mod UniqueItems
+pub mod UniqueItems
 mod TorusLabels
 mod Examples

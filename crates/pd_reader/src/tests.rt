@@ -43,57 +43,70 @@ fn net_fault(rt: &HostRuntime, text: &[u8]) -> Option<TextFault> {
     read_net(rt.alloc(), text).err()
 }
 
+/// Texts that are refused, and why.
+const REFUSED: [(&[u8], TextFault); 24] = [
+    (b"PD[X1425]", TextFault::Number { at: 4 }),
+    (b"PD[P[1,2]]", TextFault::Head { at: 3 }),
+    (b"PD[X[0,1,1,2]]", TextFault::Number { at: 5 }),
+    (b"", TextFault::Text { at: 0 }),
+    (b" \n", TextFault::Text { at: 2 }),
+    (
+        b"PD[Loop[1],Loop[1]]",
+        TextFault::Label { label: 1, count: 4 },
+    ),
+    (b"PD[X[1,4,2", TextFault::Text { at: 10 }),
+    (b"PD[Xp[1,1,2,2]]", TextFault::Head { at: 4 }),
+    (b"PD[X[1,1,1,2]]", TextFault::Label { label: 1, count: 3 }),
+    (
+        b"PD[Loop[3],X[9,9,5,7]]",
+        TextFault::Label { label: 5, count: 1 },
+    ),
+    (b"PD[R2[1,2]]", TextFault::Head { at: 3 }),
+    (b"PD[Y[1,2,3]]", TextFault::Head { at: 3 }),
+    (b"Net[]", TextFault::Head { at: 0 }),
+    (b"PD[Loop[1234567]]", TextFault::Number { at: 14 }),
+    (b"PD[Loop[01]]", TextFault::Number { at: 8 }),
+    (b"P D[]", TextFault::Text { at: 1 }),
+    (b"PD[Lo op[1]]", TextFault::Text { at: 5 }),
+    (b"PD[Loop[1 2]]", TextFault::Number { at: 10 }),
+    (b"PD[Loop[1,2]]", TextFault::Text { at: 9 }),
+    (b"PD[Loop[1],]", TextFault::Text { at: 11 }),
+    (b"PD[,Loop[1]]", TextFault::Text { at: 3 }),
+    (b"PD[Loop[-1]]", TextFault::Text { at: 8 }),
+    (b"PD[],", TextFault::Text { at: 4 }),
+    (b"pd[]", TextFault::Head { at: 0 }),
+];
+
+/// Texts that are read.
+const READ: [&[u8]; 4] = [b"PD[]", b" PD [ ] ", b"PD[Loop[999999]]", b"PD[X[1,2,2,1]]"];
+
+/// Which texts are refused, and which are read.
 #[test]
 fn worked_rows(rt: HostRuntime) -> Result<(), Fail> {
-    let refused: [(&[u8], TextFault); 24] = [
-        (b"PD[X1425]", TextFault::Number { at: 4 }),
-        (b"PD[P[1,2]]", TextFault::Head { at: 3 }),
-        (b"PD[X[0,1,1,2]]", TextFault::Number { at: 5 }),
-        (b"", TextFault::Text { at: 0 }),
-        (b" \n", TextFault::Text { at: 2 }),
-        (
-            b"PD[Loop[1],Loop[1]]",
-            TextFault::Label { label: 1, count: 4 },
-        ),
-        (b"PD[X[1,4,2", TextFault::Text { at: 10 }),
-        (b"PD[Xp[1,1,2,2]]", TextFault::Head { at: 4 }),
-        (b"PD[X[1,1,1,2]]", TextFault::Label { label: 1, count: 3 }),
-        (
-            b"PD[Loop[3],X[9,9,5,7]]",
-            TextFault::Label { label: 5, count: 1 },
-        ),
-        (b"PD[R2[1,2]]", TextFault::Head { at: 3 }),
-        (b"PD[Y[1,2,3]]", TextFault::Head { at: 3 }),
-        (b"Net[]", TextFault::Head { at: 0 }),
-        (b"PD[Loop[1234567]]", TextFault::Number { at: 14 }),
-        (b"PD[Loop[01]]", TextFault::Number { at: 8 }),
-        (b"P D[]", TextFault::Text { at: 1 }),
-        (b"PD[Lo op[1]]", TextFault::Text { at: 5 }),
-        (b"PD[Loop[1 2]]", TextFault::Number { at: 10 }),
-        (b"PD[Loop[1,2]]", TextFault::Text { at: 9 }),
-        (b"PD[Loop[1],]", TextFault::Text { at: 11 }),
-        (b"PD[,Loop[1]]", TextFault::Text { at: 3 }),
-        (b"PD[Loop[-1]]", TextFault::Text { at: 8 }),
-        (b"PD[],", TextFault::Text { at: 4 }),
-        (b"pd[]", TextFault::Head { at: 0 }),
-    ];
-    for (text, fault) in refused {
+    for (text, fault) in REFUSED {
         assert_eq!(rt; pd_fault(&rt, text), Some(fault));
     }
-    let read: [&[u8]; 4] = [b"PD[]", b" PD [ ] ", b"PD[Loop[999999]]", b"PD[X[1,2,2,1]]"];
-    for text in read {
+    for text in READ {
         assert_eq!(rt; pd_fault(&rt, text), None);
     }
+    Ok(())
+}
 
-    // Each beginning of a text is refused at its end.
+/// Each beginning of a text is refused at its end.
+#[test]
+fn cut_texts(rt: HostRuntime) -> Result<(), Fail> {
     for length in 0..TREFOIL.len() {
         assert_eq!(rt;
             pd_fault(&rt, &TREFOIL[..length]),
             Some(TextFault::Text { at: length })
         );
     }
+    Ok(())
+}
 
-    // The slots, in their order, and white space of each kind in each gap.
+/// The slots, in their order, and white space of each kind in each gap.
+#[test]
+fn slots_and_spaces(rt: HostRuntime) -> Result<(), Fail> {
     let trefoil = read_pd(rt.alloc(), TREFOIL).ok().ok_or("a text")?;
     assert_eq!(rt; trefoil.items().len(), 3);
     assert_eq!(rt;
@@ -111,23 +124,23 @@ fn worked_rows(rt: HostRuntime) -> Result<(), Fail> {
         assert_eq!(rt; other.items(), trefoil.items());
     }
     assert_eq!(rt; write_pd(rt.alloc(), &trefoil)?.as_slice(), TREFOIL);
+    Ok(())
+}
 
-    // 256 items are read, and no more.
+/// 256 items are read, and no more.
+#[test]
+fn most_items(rt: HostRuntime) -> Result<(), Fail> {
     assert_eq!(rt; pd_fault(&rt, &loops(rt.alloc(), 256)?), None);
     assert_eq!(rt;
         pd_fault(&rt, &loops(rt.alloc(), 257)?),
         Some(TextFault::TooMany { limit: 256 })
     );
+    Ok(())
+}
 
-    // A text of more than 1,048,576 bytes is read to its end.
-    let long = loops(rt.alloc(), 90_000)?;
-    assert_eq!(rt; long.len() > 1_048_576, true);
-    assert_eq!(rt;
-        pd_fault(&rt, &long),
-        Some(TextFault::TooMany { limit: 256 })
-    );
-
-    // Nets: the empty one, a theta, a vertex alone, and a head that diagrams alone have.
+/// Nets: the empty one, a theta, a vertex alone, and a head that diagrams alone have.
+#[test]
+fn nets(rt: HostRuntime) -> Result<(), Fail> {
     assert_eq!(rt; net_fault(&rt, b"Net[]"), None);
     assert_eq!(rt; net_fault(&rt, b"Net[Y[1,2,3],Y[3,2,1]]"), None);
     assert_eq!(rt;
@@ -143,8 +156,12 @@ fn worked_rows(rt: HostRuntime) -> Result<(), Fail> {
         .ok()
         .ok_or("a net")?;
     assert_eq!(rt; theta.items().first().copied(), Some(NetItem::Y([1, 2, 3])));
+    Ok(())
+}
 
-    // The torus link with three crossings, and the calls that the readers stand on.
+/// The torus link with three crossings, and diagrams and nets made of items.
+#[test]
+fn canonical_texts(rt: HostRuntime) -> Result<(), Fail> {
     let three = torus(rt.alloc(), 3)?;
     assert_eq!(rt;
         write_pd(rt.alloc(), &three)?.as_slice(),
@@ -161,6 +178,12 @@ fn worked_rows(rt: HostRuntime) -> Result<(), Fail> {
         .ok()
         .ok_or("a net")?;
     assert_eq!(rt; net.items().len(), 1);
+    Ok(())
+}
+
+/// The calls that the readers stand on.
+#[test]
+fn tokens(rt: HostRuntime) -> Result<(), Fail> {
     assert_eq!(rt; skip(b"a \n\tb", 1), 4);
     assert_eq!(rt; agree(b"R2Un[", 0, b"R2Undo"), 4);
     assert_eq!(rt; number(b"7,12", 2), Some((12, 4)));

@@ -9,7 +9,6 @@ use Rattle.std.proofs.lemmas.List.{get_or-map, take_more, take_all, map-append}
 use Rattle.std.proofs.lemmas.List.Elements.{All-head, All-tail}
 use Rattle.std.proofs.lemmas.List.Sums.{fold_push}
 use Rattle.graph_parts.specs.Ends.{AreAmong}
-
 use Rattle.graph_parts.specs.Labels.{relabel, label_of, label_count}
 use Rattle.graph_parts.specs.Parts.{part_count}
 use Rattle.graph_parts.proofs.Ends.{is_member-get_or}

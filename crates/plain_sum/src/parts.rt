@@ -3,7 +3,6 @@
 ghost use Rattle.std.specs.Prelude.{◌≡◌, ◌≤◌, ◌==◌, IfOk, length, map};
 ghost use Rattle.std.specs.Set.{distinct_count};
 ghost use Rattle.graph_parts.specs.Renaming.{turned};
-
 ghost use Rattle.graph_parts.specs.Parts.{part_count};
 ghost use Rattle.plain_sum.specs.Places.{named, AreWithin};
 

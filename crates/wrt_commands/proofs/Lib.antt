@@ -1,1 +1,6 @@
 pub mod StatusLemmas
+pub mod ParametersLemmas
+pub mod OutcomeLemmas
+pub mod RunLemmas
+pub mod UniqueOutcomes
+pub mod Completeness

@@ -5,7 +5,7 @@ use Rattle.std.proofs.Common.{◌≡◌, ◌≢◌, refl}
 use Rattle.pd_reader.specs.declared.fault.TextFault.TheVariants as texts
 use Rattle.wrt_commands.specs.declared.status.Status.TheVariants as statuses
 use Rattle.wrt_commands.specs.declared.refusal.Refusal.{Refusal}
-use Rattle.wrt_commands.specs.declared.refusal.Refusal.TheVariants.{Words, Parameters, ReadFault, TooLong, Text, Crossings, WriteFault, Memory}
+use Rattle.wrt_commands.specs.declared.refusal.Refusal.TheVariants.{Words, Parameters, ReadFault, TooLong, Text, NotPlanar, Crossings, WriteFault, Memory}
 use Rattle.wrt_commands.specs.Reports.{status_of}
 
 -- no refusal ends with `Done`
@@ -20,6 +20,7 @@ status-done (Text (texts.Text at)) = λ e. cc
 status-done (Text (texts.TooMany limit)) = λ e. cc
 status-done (Text (texts.Label label count)) = λ e. cc
 status-done (Text texts.Memory) = λ e. cc
+status-done (NotPlanar faces wanted) = λ e. cc
 status-done Crossings = λ e. cc
 status-done WriteFault = λ e. cc
 status-done Memory = λ e. cc
@@ -36,6 +37,7 @@ status-read_fault (Text (texts.Text at)) e = absurd (cc)
 status-read_fault (Text (texts.TooMany limit)) e = absurd (cc)
 status-read_fault (Text (texts.Label label count)) e = absurd (cc)
 status-read_fault (Text texts.Memory) e = absurd (cc)
+status-read_fault (NotPlanar faces wanted) e = absurd (cc)
 status-read_fault Crossings e = absurd (cc)
 status-read_fault WriteFault e = absurd (cc)
 status-read_fault Memory e = absurd (cc)
@@ -52,6 +54,7 @@ status-write_fault (Text (texts.Text at)) e = absurd (cc)
 status-write_fault (Text (texts.TooMany limit)) e = absurd (cc)
 status-write_fault (Text (texts.Label label count)) e = absurd (cc)
 status-write_fault (Text texts.Memory) e = absurd (cc)
+status-write_fault (NotPlanar faces wanted) e = absurd (cc)
 status-write_fault Crossings e = absurd (cc)
 status-write_fault WriteFault e = refl
 status-write_fault Memory e = absurd (cc)

@@ -1,2 +1,5 @@
 pub mod Statuses
 pub mod Reports
+pub mod Outcomes
+pub mod Runs
+pub mod Laws

@@ -13,7 +13,7 @@ use Rattle.wrt_commands.specs.declared.parameters.ParametersFault.TheVariants as
 use Rattle.wrt_commands.specs.declared.status.Status.{Status}
 use Rattle.wrt_commands.specs.declared.status.Status.TheVariants as statuses
 use Rattle.wrt_commands.specs.declared.refusal.Refusal.{Refusal}
-use Rattle.wrt_commands.specs.declared.refusal.Refusal.TheVariants.{Words, Parameters, ReadFault, TooLong, Text, Crossings, WriteFault, Memory}
+use Rattle.wrt_commands.specs.declared.refusal.Refusal.TheVariants.{Words, Parameters, ReadFault, TooLong, Text, NotPlanar, Crossings, WriteFault, Memory}
 
 -- The status that the refusal ends with.
 abbrev pub status_of : Refusal → Status
@@ -24,6 +24,7 @@ status_of TooLong = statuses.Limit
 status_of (Text (texts.TooMany limit)) = statuses.Limit
 status_of (Text texts.Memory) = statuses.Memory
 status_of (Text _) = statuses.Input
+status_of (NotPlanar faces wanted) = statuses.Input
 status_of Crossings = statuses.Limit
 status_of WriteFault = statuses.WriteFault
 status_of Memory = statuses.Memory
@@ -51,6 +52,7 @@ text_of (Text (texts.Number at)) = codes "number refused at byte " ++ decimal at
 text_of (Text (texts.TooMany limit)) = codes "more than 256 items"
 text_of (Text (texts.Label label count)) = codes "label " ++ decimal label ++ codes " stands " ++ decimal count ++ codes " times"
 text_of (Text texts.Memory) = codes "out of memory"
+text_of (NotPlanar faces wanted) = codes "not planar: " ++ decimal faces ++ codes " faces, " ++ decimal wanted ++ codes " wanted"
 text_of Crossings = codes "more than 16 crossings"
 text_of WriteFault = codes "write failed"
 text_of Memory = codes "out of memory"

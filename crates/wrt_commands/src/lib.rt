@@ -3,6 +3,7 @@
 
 mod bracket;
 mod input;
+mod laws;
 mod parameters;
 mod refusal;
 mod status;
@@ -10,6 +11,7 @@ mod status;
 mod tests;
 mod top;
 
+pub use laws::outcomes_are_unique;
 pub use parameters::{ParametersFault, read_parameters};
 pub use refusal::Refusal;
 pub use status::Status;

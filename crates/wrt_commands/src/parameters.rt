@@ -2,6 +2,7 @@
 
 ghost use Rattle.std.specs.Prelude.{◌≡◌, Some};
 ghost use Rattle.wrt_commands.specs.Reports.{text_of_parameters};
+ghost use Rattle.wrt_commands.specs.Outcomes.{parameters_of};
 
 use root_quantum::{ParamFault, Params};
 use std::fmt;
@@ -40,8 +41,11 @@ impl fmt::Display for ParametersFault {
     }
 }
 
-/// The parameters that the numbers are. A level past 32 bits is out of range. It takes no memory.
-pub fn read_parameters(numbers: &Numbers) -> Result<Params, ParametersFault> {
+/// The parameters that the numbers are, or the first reason against them. A level past 32 bits is out of
+/// range. It takes no memory.
+pub fn read_parameters(numbers: &Numbers) -> Result<Params, ParametersFault>
+    ensures { result ≡ parameters_of numbers.now }
+{
     let level = u32::try_from(numbers.level).unwrap_or(u32::MAX);
     match Params::new(numbers.modulus, numbers.root, level) {
         Ok(params) => Ok(params),

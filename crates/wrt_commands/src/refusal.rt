@@ -22,6 +22,8 @@ pub enum Refusal {
     TooLong,
     /// The text is refused, or its items are.
     Text(TextFault),
+    /// The diagram is not planar: it has so many faces, where `wanted` are.
+    NotPlanar { faces: u32, wanted: u32 },
     /// The diagram has more than 16 crossings.
     Crossings,
     /// A write of the report failed.
@@ -40,7 +42,7 @@ impl Refusal {
             Refusal::ReadFault => Status::ReadFault,
             Refusal::TooLong | Refusal::Text(TextFault::TooMany { .. }) => Status::Limit,
             Refusal::Text(TextFault::Memory) => Status::Memory,
-            Refusal::Text(_) => Status::Input,
+            Refusal::Text(_) | Refusal::NotPlanar { .. } => Status::Input,
             Refusal::Crossings => Status::Limit,
             Refusal::WriteFault => Status::WriteFault,
             Refusal::Memory => Status::Memory,
@@ -71,6 +73,9 @@ impl fmt::Display for Refusal {
             Refusal::Text(TextFault::TooMany { .. }) => write!(f, "more than 256 items"),
             Refusal::Text(TextFault::Label { label, count }) => {
                 write!(f, "label {label} stands {count} times")
+            }
+            Refusal::NotPlanar { faces, wanted } => {
+                write!(f, "not planar: {faces} faces, {wanted} wanted")
             }
             Refusal::Crossings => write!(f, "more than 16 crossings"),
             Refusal::WriteFault => write!(f, "write failed"),

@@ -2,7 +2,6 @@ use Rattle.std.proofs.Common.{◌≡◌, ◌==◌, length, map, take, get_or, ap
 use Rattle.std.specs.Set.{distinct_count}
 use Rattle.std.proofs.lemmas.Grind.{common_steps}
 use Rattle.std.proofs.lemmas.List.{get_or_read, length-map}
-
 use Rattle.graph_parts.specs.Renaming.{turned}
 use Rattle.graph_parts.specs.Labels.{label_of}
 use Rattle.plain_sum.specs.Places.{named}

@@ -1,7 +1,6 @@
 use Rattle.std.proofs.Common.{arith}
 use Rattle.std.proofs.lemmas.Grind.{common_steps}
 use Rattle.std.proofs.lemmas.List.Edits.{map_over_more}
-
 use Rattle.graph_parts.specs.Renaming.{turned}
 use Rattle.plain_sum.proofs.parts.turn.Goals as goal
 use Rattle.plain_sum.proofs.parts.turn.Goals.{then-label-from, else-label-from}

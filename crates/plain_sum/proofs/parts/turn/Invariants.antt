@@ -1,5 +1,4 @@
 use Rattle.std.proofs.Common.{◌≡◌, ◌++◌, map, take, drop}
-
 use Rattle.graph_parts.specs.Renaming.{turned}
 use Rattle.plain_sum.proofs.parts.turn.Given as goal
 

@@ -1,0 +1,5 @@
+pub mod Pairings
+pub mod Sums
+pub mod Laws
+pub mod Mates
+pub mod Seams

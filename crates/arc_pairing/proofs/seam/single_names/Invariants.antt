@@ -1,0 +1,7 @@
+use Rattle.std.proofs.Common.{◌≡◌, ◌==◌, take}
+use Rattle.std.specs.List.{filter}
+use Rattle.state_sums.specs.Networks.{times_in}
+use Rattle.arc_pairing.proofs.seam.single_names.Given as goal
+
+abbrev pub invariant-loop-name : goal.invariant-loop-name
+invariant-loop-name l = l.single.items ≡ filter (λ x. times_in l.all x == 1) (take l.name-index l.all)

@@ -1,0 +1,24 @@
+-- Gluing one node to a pairing: the pairs of the points before, whose names are given, and the pairs of one term of the
+-- node join names into parts. What was joined at a name that stands twice is glued, and the names that stand once are left.
+--
+--     Seam                        the names of the points before, the names of the node's ends, and the names that are left
+--     glued_edges seam old term   the pairs of the old pairing and of the term, as edges between names
+--     single_count names          how many names stand once: 1 of 5, 5, 7
+use Rattle.std.specs.Prelude.{ℕ, ◌==◌, List, ◌++◌}
+use Rattle.std.specs.List.{count_by}
+use Rattle.state_sums.specs.Networks.{times_in}
+use Rattle.arc_gluing.specs.Pairings.{pair_edges}
+
+-- The names of the points before, the names of the node's ends, and the names that are left.
+pub record Seam : Type 0 where
+  pub inner : List ℕ
+  pub ends : List ℕ
+  pub outer : List ℕ
+
+-- The pairs of the old pairing and of the term.
+abbrev pub glued_edges : Seam → List ℕ → List ℕ → List (ℕ × ℕ)
+glued_edges seam old term = pair_edges seam.inner old ++ pair_edges seam.ends term
+
+-- How many names stand once.
+abbrev pub single_count : List ℕ → ℕ
+single_count names = count_by (λ x. times_in names x == 1) names

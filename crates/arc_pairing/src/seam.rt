@@ -1,0 +1,194 @@
+//! Seams: where the points of a pairing and the ends of a node glued to it go.
+
+ghost use Rattle.std.specs.Prelude.{◌≡◌, ◌<◌, ◌≤◌, ◌==◌, ◌++◌, ◌↔◌, ℕ, length, map, slice_index, IfOk};
+ghost use Rattle.std.specs.List.{filter};
+ghost use Rattle.std.specs.List.Sorted.{IsStrictlyIncreasing};
+ghost use Rattle.state_sums.specs.Networks.{times_in};
+ghost use Rattle.arc_gluing.specs.Pairings.{AreOpen};
+ghost use Rattle.arc_gluing.specs.Seams.{place_in};
+ghost use Rattle.arc_pairing.specs.Gluing.{single_count};
+
+use arrayvec::ArrayVec;
+use std::marker::Model;
+
+/// More names are left than a pairing has room for.
+#[derive(Clone, Copy, Debug, PartialEq, Eq)]
+pub struct TooWide {
+    /// How many names are left, more than 24.
+    pub ends: u32,
+}
+
+/// Where the points of a pairing and the ends of one node go: the names that stand once in both
+/// together are left, increasing, and those that stand twice are glued (this project's own).
+///
+/// Contracts see a seam as the three lists of names.
+#[derive(Drop)]
+pub struct Seam {
+    inner: ArrayVec<u32, 24>,
+    ends: ArrayVec<u32, 24>,
+    outer: ArrayVec<u32, 24>,
+    pub(crate) end_slots: ArrayVec<u8, 24>,
+    pub(crate) outer_slots: ArrayVec<u8, 24>,
+    pub(crate) places: [u8; 48],
+}
+
+impl Model for Seam {
+    ghost use Rattle.arc_pairing.specs.Gluing;
+    ghost use Rattle.arc_gluing.specs.Seams.{IsSeam};
+
+    ghost Value = { Gluing.Seam };
+
+    ghost view = { λ seam. record { inner = seam.inner.items; ends = seam.ends.items; outer = seam.outer.items } };
+
+    ghost invariant = { λ seam. IsSeam seam.inner.items seam.ends.items seam.outer.items seam.end_slots.items seam.outer_slots.items seam.places };
+}
+
+/// An equal list, of at most 24 names.
+fn copied(names: &[u32]) -> ArrayVec<u32, 24>
+    requires { length names.now ≤ 24 }
+    ensures { result.items ≡ names.now }
+{
+    let mut copies = ArrayVec::new();
+    for name in names {
+        copies.push(*name);
+    }
+    copies
+}
+
+/// The names and then the ends, of each at most 24.
+fn joined(names: &[u32], ends: &[u32]) -> ArrayVec<u32, 48>
+    requires few_names { length names.now ≤ 24 }
+    requires few_ends { length ends.now ≤ 24 }
+    ensures { result.items ≡ names.now ++ ends.now }
+{
+    let mut all = ArrayVec::new();
+    for name in names {
+        all.push(*name);
+    }
+    for end in ends {
+        all.push(*end);
+    }
+    all
+}
+
+/// How often the name stands.
+fn times(all: &[u32], name: u32) -> usize
+    ensures { result ≡ times_in all.now name }
+{
+    all.iter().filter(|other| name == **other).count()
+}
+
+/// The names that stand once, in order, of at most 48.
+fn single_names(all: &[u32]) -> ArrayVec<u32, 48>
+    requires { length all.now ≤ 48 }
+    ensures { result.items ≡ filter (λ x. times_in all.now x == 1) all.now }
+{
+    let mut single = ArrayVec::new();
+    for name in all {
+        if times(all, *name) == 1 {
+            single.push(*name);
+        }
+    }
+    single
+}
+
+/// The names that stand once, increasing, of at most 48.
+fn names_once(all: &[u32]) -> ArrayVec<u32, 48>
+    requires { length all.now ≤ 48 }
+    ensures left { AreOpen all.now result.items }
+    ensures ascending { IsStrictlyIncreasing result.items }
+    ensures count { length result.items ≡ single_count all.now }
+{
+    let mut single = single_names(all);
+    single.sort_unstable();
+    single
+}
+
+/// The slot of a name, the first place at which it stands.
+fn slot_of(all: &[u32], name: u32) -> usize
+    ensures slot { result ≡ place_in all.now name }
+    ensures bound { result ≤ length all.now }
+{
+    for (place, other) in all.iter().enumerate() {
+        if name == *other {
+            return place;
+        }
+    }
+    all.len()
+}
+
+/// The slots of the names, of which there are at most 24.
+fn slots_of(all: &[u32], names: &[u32]) -> ArrayVec<u8, 24>
+    requires few { length all.now ≤ 48 }
+    requires few_names { length names.now ≤ 24 }
+    ensures { result.items ≡ map (place_in all.now) names.now }
+{
+    let mut slots = ArrayVec::new();
+    for name in names {
+        slots.push(slot_of(all, *name) as u8);
+    }
+    slots
+}
+
+/// For each slot its place in the list of these slots, all different.
+fn places_of(slots: &[u8]) -> [u8; 48]
+    requires few { length slots.now ≤ 24 }
+    requires small { (i : ℕ) → i < length slots.now → slice_index slots.now i < 48 }
+    requires apart { (i j : ℕ) → i < length slots.now → j < length slots.now → slice_index slots.now i ≡ slice_index slots.now j → i ≡ j }
+    ensures { (i : ℕ) → i < length slots.now → slice_index result (slice_index slots.now i) ≡ i }
+{
+    let mut places = [0; 48];
+    for (place, slot) in slots.iter().enumerate() {
+        places[usize::from(*slot)] = place as u8;
+    }
+    places
+}
+
+impl Seam {
+    /// The seam of a pairing whose points have these names, increasing, and a node whose ends have
+    /// those; no name stands more than twice in both together. Of no names and the ends 5, 5, 7 it
+    /// leaves 7.
+    ///
+    /// `TooWide` holds how many names stand once, and comes exactly where these are more than 24. It
+    /// takes no memory.
+    pub fn of(names: &[u32], ends: &[u32]) -> Result<Seam, TooWide>
+        requires few_names { length names.now ≤ 24 }
+        requires few_ends { length ends.now ≤ 24 }
+        requires increasing { IsStrictlyIncreasing names.now }
+        requires few { (x : ℕ) → times_in (names.now ++ ends.now) x ≤ 2 }
+        ensures made { IfOk result (λ seam. (seam.inner ≡ names.now) × (seam.ends ≡ ends.now)) }
+        ensures left { IfOk result (λ seam. AreOpen (names.now ++ ends.now) seam.outer) }
+        ensures ascending { IfOk result (λ seam. IsStrictlyIncreasing seam.outer) }
+        ensures wide { (count : ℕ) → (result ≡ Err (record { ends = count })) ↔ (24 < single_count (names.now ++ ends.now)) × (count ≡ single_count (names.now ++ ends.now)) }
+    {
+        let all = joined(names, ends);
+        let single = names_once(all.as_slice());
+        if single.len() > 24 {
+            return Err(TooWide {
+                ends: single.len() as u32,
+            });
+        }
+        let end_slots = slots_of(all.as_slice(), ends);
+        let outer_slots = slots_of(all.as_slice(), single.as_slice());
+        let places = places_of(outer_slots.as_slice());
+        Ok(Seam {
+            inner: copied(names),
+            ends: copied(ends),
+            outer: copied(single.as_slice()),
+            end_slots,
+            outer_slots,
+            places,
+        })
+    }
+
+    /// The names that are left, increasing: those that stand once. It takes no memory.
+    #[inline]
+    pub fn names(&self) -> &[u32]
+        ensures value { result.now ≡ self.now.outer }
+        ensures left { AreOpen (self.now.inner ++ self.now.ends) self.now.outer }
+        ensures ascending { IsStrictlyIncreasing self.now.outer }
+        ensures few { length self.now.outer ≤ 24 }
+    {
+        self.outer.as_slice()
+    }
+}

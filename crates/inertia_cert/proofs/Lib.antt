@@ -1,0 +1,7 @@
+pub mod Bounds
+pub mod Opposites
+pub mod Tables
+pub mod Stages
+pub mod SumSteps
+pub mod GridEntries
+pub mod Verdict

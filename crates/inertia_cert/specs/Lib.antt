@@ -1,0 +1,4 @@
+pub mod SymmetricMatrices
+pub mod Values
+pub mod Grids
+pub mod Eliminations
