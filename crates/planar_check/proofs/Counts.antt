@@ -73,7 +73,7 @@ owners_below number (c ∷ cs) =
     (All-map P (λ _. number) c (λ k d l. omega arith))
     (All-weaker Q P (λ o h. omega (arith, h)) (owners (number + 1) cs) (owners_below (number + 1) cs))
 
-first_below : (test : ℕ → Bool) (ns : List ℕ) (none n : ℕ) → All (λ x. x < n) ns → none < n → first_passing test ns none < n
+pub first_below : (test : ℕ → Bool) (ns : List ℕ) (none n : ℕ) → All (λ x. x < n) ns → none < n → first_passing test ns none < n
 first_below test [] none n h l = l
 first_below test (x ∷ ns) none n h l =
     let below : ℕ → Type 0 = λ y. y < n in

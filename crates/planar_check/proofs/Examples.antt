@@ -9,7 +9,7 @@ use Rattle.graph_parts.specs.Parts.{part_count, part}
 use Rattle.planar_check.specs.Places.{item_slots, net_item_slots, labels_by_place, turned_places, other_place, other_places}
 use Rattle.graph_parts.specs.LeastNames.{least_name}
 use Rattle.planar_check.specs.Components.{least_of, least_labels, component_of}
-use Rattle.planar_check.specs.Signs.{walk_of, writhe, sign_sum}
+use Rattle.planar_check.specs.Signs.{walk_of, signed_crossings, writhe, halved, linking}
 use Rattle.planar_check.specs.Faces.{faces}
 use Rattle.planar_check.specs.Planar.{next_place, face_count, piece_count, edge_count, wanted_faces, planar_refusal}
 
@@ -73,19 +73,27 @@ unfolding chain least_labels least_of least_name part
 chain_components = refl
 
 trefoil_writhe : writhe trefoil_items 1 ≡ negsuc 2
-unfolding trefoil_items writhe walk_of other_place least_labels least_of least_name part
+unfolding trefoil_items signed_crossings walk_of other_place least_labels least_of least_name part
 trefoil_writhe = refl
 
 -- the figure eight
 figure_eight_writhe : writhe (X (4 ∷ 2 ∷ 5 ∷ 1 ∷ []) ∷ X (8 ∷ 6 ∷ 1 ∷ 5 ∷ []) ∷ X (6 ∷ 3 ∷ 7 ∷ 4 ∷ []) ∷ X (2 ∷ 7 ∷ 3 ∷ 8 ∷ []) ∷ []) 1 ≡ pos 0
-unfolding writhe walk_of other_place least_labels least_of least_name part
+unfolding signed_crossings walk_of other_place least_labels least_of least_name part
 figure_eight_writhe = refl
 
--- the Hopf link and the chain of three: the sum is twice the linking number
-hopf_linking : sign_sum hopf 1 2 ≡ pos 2
-unfolding hopf sign_sum walk_of other_place least_labels least_of least_name part
+-- both curls
+curl_writhes : writhe (X (1 ∷ 1 ∷ 2 ∷ 2 ∷ []) ∷ []) 1 ∷ writhe (X (1 ∷ 2 ∷ 2 ∷ 1 ∷ []) ∷ []) 1 ∷ [] ≡ pos 1 ∷ negsuc 0 ∷ []
+unfolding signed_crossings walk_of other_place least_labels least_of least_name part
+curl_writhes = refl
+
+toward_zero : map halved (pos 3 ∷ negsuc 2 ∷ negsuc 1 ∷ []) ≡ pos 1 ∷ negsuc 0 ∷ negsuc 0 ∷ []
+toward_zero = refl
+
+-- the Hopf link, and the chain of three, whose middle is the first component
+hopf_linking : linking hopf 1 2 ≡ pos 1
+unfolding hopf signed_crossings walk_of other_place least_labels least_of least_name part
 hopf_linking = refl
 
-chain_linking : map (λ j. sign_sum chain 1 j) (2 ∷ 3 ∷ []) ≡ pos 2 ∷ pos 2 ∷ []
-unfolding chain sign_sum walk_of other_place least_labels least_of least_name part
+chain_linking : linking chain 1 2 ∷ linking chain 3 1 ∷ linking chain 2 3 ∷ [] ≡ pos 1 ∷ pos 1 ∷ pos 0 ∷ []
+unfolding chain signed_crossings walk_of other_place least_labels least_of least_name part
 chain_linking = refl

@@ -5,3 +5,4 @@ mod Counts
 mod PlaceLists
 mod Cycles
 mod Strands
+mod Crossings

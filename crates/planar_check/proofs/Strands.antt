@@ -95,7 +95,7 @@ module _ (xs : List Item) (sizes : AllByRecursion HasItsSlots xs) (n : ℕ) (cov
 
   module _ (entries : List ℕ) (stands : List Bool) (are : entries ≡ map (least_name (range_with_len 0 n) es) (range_with_len 0 n))
       (marked : (x : ℕ) → x < n → get_or stands x false ≡ is_member ◌==◌ ls x) where
-    entry_of : (x : ℕ) → is_member ◌==◌ ls x ≡ true → slice_index entries x ≡ least_of xs x
+    pub entry_of : (x : ℕ) → is_member ◌==◌ ls x ≡ true → slice_index entries x ≡ least_of xs x
     entry_of x m = entry_at (least_name (range_with_len 0 n) es) n x entries are (let h = member_at_most ls x m in omega (arith, h, covers)) ∙ entry_least x m
 
     same_test : (x : ℕ) → x < n → (get_or stands x false && slice_index entries x == x) ≡ is_least_of xs x

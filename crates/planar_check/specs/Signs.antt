@@ -15,16 +15,20 @@
 --     first_place labels label      the lesser of the label's places
 --     enters items p                the walk of p's component enters its crossing at p
 --     is_positive items k           the crossing with the number k, from 0, has sign +1
---     under_of, over_of items k     the component of its under strand, and of its over strand
+--     component_at items p          the component of the strand at the place p
+--     signed_crossings items        the crossings, each with its sign and its strands' components
+--     signs_between i j crossings   the sum of the signs of the crossings between components i and j
 --     writhe items i                the sum of the signs of the crossings of component i with itself
---     sign_sum items i j            the sum of the signs of the crossings between components i and j
 --     linking items i j             that sum halved and rounded toward zero
 --
 -- The left-handed trefoil X[1,4,2,5] X[3,6,4,1] X[5,2,6,3] has the writhe -3.
-use Rattle.std.specs.Prelude.{ℕ, ℤ, pos, ◌+◌, ◌*◌, ◌-ℤ◌, ◌==◌, ◌&&◌, ◌||◌, Bool, not, cond, List, length, map, slice_index, count_by}
+use Rattle.std.specs.Prelude.{◌≡◌, ℕ, ℤ, pos, ◌+◌, ◌*◌, ◌^◌, ◌<◌, ◌-ℤ◌, int_div, ◌==◌, ◌&&◌, ◌||◌, Bool, true, false, not, cond, if◌then◌else◌, List, length, map, slice_index, count_by}
 use Rattle.std.specs.List.{range_with_len}
 use Rattle.graph_parts.specs.LeastNames.{least_name}
 use Rattle.pd_reader.specs.declared.item.Item.{Item}
+use Rattle.planar_check.specs.declared.sign.Sign.{Sign}
+use Rattle.planar_check.specs.declared.sign.Sign.TheVariants as signs
+use Rattle.planar_check.specs.declared.sign.Signed.{Signed}
 use Rattle.planar_check.specs.Places.{crossings, item_slots, labels_by_place, turned_places, other_places, first_passing}
 use Rattle.planar_check.specs.Components.{least_of, number_of}
 
@@ -60,24 +64,52 @@ same_truth x y = cond x y (not y)
 abbrev pub is_positive : List Item → ℕ → Bool
 is_positive items k = same_truth (enters items (4 * k)) (enters items (4 * k + 3))
 
--- the component of the under strand
-abbrev pub under_of : List Item → ℕ → ℕ
-under_of items k = number_of items (slice_index (labels_by_place (crossings_of items)) (4 * k))
+-- the component of the strand at the place
+abbrev pub component_at : List Item → ℕ → ℕ
+component_at items p = number_of items (slice_index (labels_by_place (crossings_of items)) p)
 
--- the component of the over strand
-abbrev pub over_of : List Item → ℕ → ℕ
-over_of items k = number_of items (slice_index (labels_by_place (crossings_of items)) (4 * k + 1))
+abbrev pub sign_for : Bool → Sign
+sign_for b = if b then signs.Plus else signs.Minus
 
--- the sum of the signs of the crossings that pass the test
-abbrev pub signs_of : List Item → (ℕ → Bool) → ℤ
-signs_of items test =
-    let all = range_with_len 0 (length (crossings_of items)) in
-    pos (count_by (λ k. test k && is_positive items k) all) -ℤ pos (count_by (λ k. test k && not (is_positive items k)) all)
+abbrev pub is_plus : Sign → Bool
+is_plus signs.Plus = true
+is_plus signs.Minus = false
+
+-- the crossing with the number k, from 0: its strands' components and its sign
+abbrev pub signed_at : List Item → ℕ → Signed
+signed_at items k = record {
+  under = component_at items (4 * k);
+  over = component_at items (4 * k + 1);
+  sign = sign_for (is_positive items k);
+}
+
+-- the crossings in their order
+unfoldable pub signed_crossings : List Item → List Signed
+signed_crossings items = map (signed_at items) (range_with_len 0 (length (crossings_of items)))
+
+-- one strand is of component i, the other of j
+abbrev pub is_between : ℕ → ℕ → Signed → Bool
+is_between i j crossing = (crossing.under == i && crossing.over == j) || (crossing.under == j && crossing.over == i)
+
+-- the sum of the signs of the crossings between i and j
+abbrev pub signs_between : ℕ → ℕ → List Signed → ℤ
+signs_between i j list =
+    pos (count_by (λ (crossing : Signed). is_between i j crossing && is_plus crossing.sign) list)
+    -ℤ pos (count_by (λ (crossing : Signed). is_between i j crossing && not (is_plus crossing.sign)) list)
 
 -- the sum of the signs of the self-crossings
-unfoldable pub writhe : List Item → ℕ → ℤ
-writhe items i = signs_of items (λ k. under_of items k == i && over_of items k == i)
+abbrev pub writhe : List Item → ℕ → ℤ
+writhe items i = signs_between i i (signed_crossings items)
 
--- the sum of the signs of the crossings between two components
-unfoldable pub sign_sum : List Item → ℕ → ℕ → ℤ
-sign_sum items i j = signs_of items (λ k. (under_of items k == i && over_of items k == j) || (under_of items k == j && over_of items k == i))
+-- half of the number, rounded toward zero: 1 for 3, and -1 for -3
+abbrev pub halved : ℤ → ℤ
+halved sum = int_div sum (pos 2)
+
+-- the linking number: half the sum of the signs between the components, rounded toward zero
+abbrev pub linking : List Item → ℕ → ℕ → ℤ
+linking items i j = halved (signs_between i j (signed_crossings items))
+
+-- the crossings of the items, few enough to be counted
+pub record AreCrossings (items : List Item) (list : List Signed) : Type 0 where
+  pub crossings_are : list ≡ signed_crossings items
+  pub few : length list < 2 ^ 32

@@ -5,8 +5,10 @@ ghost use Rattle.std.specs.List.{All, AllByRecursion, filter, range_with_len};
 ghost use Rattle.std.specs.Set.{is_member};
 ghost use Rattle.pd_reader.specs.Items.{item_labels};
 ghost use Rattle.pd_reader.specs.Diagrams.{labels, IsDiagram};
+ghost use Rattle.planar_check.specs.Signs.{AreCrossings};
 ghost use Rattle.planar_check.specs.Components.{item_strands, strand_edges, greatest, AreComponents};
 
+use crate::sign::{Signed, signed_crossings};
 use part_labels::least_names;
 use pd_reader::Item;
 use std::alloc::{AllocError, Global};
@@ -96,7 +98,11 @@ fn own_names(alloc: Global, entries: &[usize], stands: &[bool]) -> Result<Vec<u3
 }
 
 /// For each of the labels its entry.
-fn entries_of(alloc: Global, labels: &[u32], entries: &[usize]) -> Result<Vec<u32>, AllocError>
+pub(crate) fn entries_of(
+    alloc: Global,
+    labels: &[u32],
+    entries: &[usize],
+) -> Result<Vec<u32>, AllocError>
     requires labels_in_range { All (λ label. label < length entries.now) labels.now }
     requires few { All (λ entry. entry < 2 ^ 32) entries.now }
     ensures { IfOk result (λ found. found.items ≡ map (λ label. slice_index entries.now label) labels.now) }
@@ -117,13 +123,16 @@ pub(crate) struct Components {
     pub leasts: Vec<u32>,
     /// The least label of each component, in increasing order.
     pub firsts: Vec<u32>,
+    /// The crossings in their order.
+    pub crossings: Vec<Signed>,
 }
 
 impl Components {
     /// The components of these items.
     pub fn of(alloc: Global, items: &[Item]) -> Result<Components, AllocError>
         requires { IsDiagram items.now }
-        ensures { IfOk result (λ found. AreComponents items.now found.labels.items found.leasts.items found.firsts.items) }
+        ensures components { IfOk result (λ found. AreComponents items.now found.labels.items found.leasts.items found.firsts.items) }
+        ensures crossings { IfOk result (λ found. AreCrossings items.now found.crossings.items) }
     {
         let labels = labels(alloc, items)?;
         let edges = strand_edges(alloc, items)?;
@@ -132,16 +141,18 @@ impl Components {
         let stands = stands(alloc, &labels, names)?;
         let firsts = own_names(alloc, &entries, &stands)?;
         let leasts = entries_of(alloc, &labels, &entries)?;
+        let crossings = signed_crossings(alloc, items, &entries, &firsts)?;
         Ok(Components {
             labels,
             leasts,
             firsts,
+            crossings,
         })
     }
 }
 
 /// How many of the numbers are at most this one.
-fn count_at_most(numbers: &[u32], most: u32) -> u32
+pub(crate) fn count_at_most(numbers: &[u32], most: u32) -> u32
     requires { length numbers.now < 2 ^ 32 }
     ensures { result ≡ count_by (λ number. nat_le number most) numbers.now }
 {

@@ -1,7 +1,8 @@
 //! Diagrams and nets that were found planar.
 
-ghost use Rattle.std.specs.Prelude.{◌≡◌, ◌⊎◌, ◌≤◌, ◌-◌, slice_index, None, Some, length, IfOk, IfErr, OnOk};
+ghost use Rattle.std.specs.Prelude.{◌≡◌, ◌⊎◌, ◌≤◌, ◌≢◌, ◌-◌, slice_index, None, Some, length, IfOk, IfErr, OnOk};
 ghost use Rattle.planar_check.specs.Places.{crossings, item_slots, net_item_slots};
+ghost use Rattle.planar_check.specs.Signs.{writhe, linking};
 ghost use Rattle.planar_check.specs.Components.{component_of, least_labels};
 ghost use Rattle.planar_check.specs.Planar.{face_count, wanted_faces, planar_refusal, IsPlanar};
 
@@ -10,6 +11,7 @@ use crate::count::{count_edges, count_faces, count_pieces};
 use crate::fault::PlanarFault;
 use crate::other::other_places;
 use crate::placed::{Placed, Places};
+use crate::sign::sign_sum;
 use pd_reader::{Diagram, NetDiagram};
 use std::alloc::{AllocError, Global};
 use std::marker::Model;
@@ -77,9 +79,11 @@ impl Model for Planar {
     ghost use Rattle.planar_check.specs.Places.{item_slots};
     ghost use Rattle.planar_check.specs.Planar.{IsPlanar};
     ghost use Rattle.planar_check.specs.Components.{AreComponents};
+    ghost use Rattle.planar_check.specs.Signs.{AreCrossings};
 
     ghost invariant = { λ planar. IsPlanar item_slots planar.diagram
-        × AreComponents planar.diagram planar.components.labels.items planar.components.leasts.items planar.components.firsts.items };
+        × AreComponents planar.diagram planar.components.labels.items planar.components.leasts.items planar.components.firsts.items
+        × AreCrossings planar.diagram planar.components.crossings.items };
 }
 
 /// The diagram, where it is planar: where it has E - N + 2k faces, for E edges between places, N
@@ -140,6 +144,29 @@ impl Planar {
         ensures { result ≡ slice_index (least_labels self.now) (component - 1) }
     {
         self.components.firsts[component as usize - 1]
+    }
+
+    /// The writhe of a component, which is 1 to `components()`: the sum of the signs of its crossings with
+    /// itself. It is -3 for the left-handed trefoil.
+    pub fn writhe(&self, component: u32) -> i64
+        requires first { 1 ≤ component }
+        requires last { component ≤ length (least_labels self.now) }
+        ensures { result ≡ writhe self.now component }
+    {
+        sign_sum(&self.components.crossings, component, component)
+    }
+
+    /// The linking number of two components, which are 1 to `components()` and different: half the sum of
+    /// the signs of the crossings between them, rounded toward zero. It is 1 for the Hopf link.
+    pub fn linking(&self, i: u32, j: u32) -> i64
+        requires first_i { 1 ≤ i }
+        requires last_i { i ≤ length (least_labels self.now) }
+        requires first_j { 1 ≤ j }
+        requires last_j { j ≤ length (least_labels self.now) }
+        requires different { i ≢ j }
+        ensures { result ≡ linking self.now i j }
+    {
+        sign_sum(&self.components.crossings, i, j) / 2
     }
 }
 

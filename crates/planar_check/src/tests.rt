@@ -7,13 +7,15 @@ use std::test::Fail;
 /// The left-handed trefoil.
 const TREFOIL: &[u8] = b"PD[X[1,4,2,5],X[3,6,4,1],X[5,2,6,3]]";
 
+const FIGURE_EIGHT: &[u8] = b"PD[X[4,2,5,1],X[8,6,1,5],X[6,3,7,4],X[2,7,3,8]]";
+
 /// Text, number of faces and number that is wanted; planar where they are equal. Loops have no face.
 const DIAGRAMS: [(&[u8], Option<PlanarFault>); 12] = [
     (b"PD[]", None),
     (b"PD[Loop[1]]", None),
     (b"PD[Loop[7],Loop[2]]", None),
     (TREFOIL, None),
-    (b"PD[X[4,2,5,1],X[8,6,1,5],X[6,3,7,4],X[2,7,3,8]]", None),
+    (FIGURE_EIGHT, None),
     (b"PD[X[1,1,2,2]]", None),
     (b"PD[X[1,2,2,1]]", None),
     (b"PD[X[1,1,2,2],Loop[5],X[3,4,4,3]]", None),
@@ -58,16 +60,27 @@ const FACES: [(&[u8], &[&[u32]]); 3] = [
     (b"PD[Loop[1]]", &[]),
 ];
 
-/// Text and the least label of each component, in order.
-const COMPONENTS: [(&[u8], &[u32]); 6] = [
-    (b"PD[]", &[]),
-    (TREFOIL, &[1]),
-    (b"PD[X[2,4,3,1],X[4,2,1,3]]", &[1, 2]),
-    (b"PD[Loop[7],Loop[2]]", &[2, 7]),
-    (b"PD[X[1,1,2,2],Loop[5],X[3,4,4,3]]", &[1, 3, 5]),
+/// Text; of each component the least label and the writhe; and the linking numbers of the second
+/// component with the first, of the third with the first and the second, and so on.
+const COMPONENTS: [(&[u8], &[u32], &[i64], &[i64]); 9] = [
+    (b"PD[]", &[], &[], &[]),
+    (TREFOIL, &[1], &[-3], &[]),
+    (FIGURE_EIGHT, &[1], &[0], &[]),
+    (b"PD[X[1,1,2,2]]", &[1], &[1], &[]),
+    (b"PD[X[1,2,2,1]]", &[1], &[-1], &[]),
+    (b"PD[X[2,4,3,1],X[4,2,1,3]]", &[1, 2], &[0, 0], &[1]),
+    (b"PD[Loop[7],Loop[2]]", &[2, 7], &[0, 0], &[0]),
+    (
+        b"PD[X[1,1,2,2],Loop[5],X[3,4,4,3]]",
+        &[1, 3, 5],
+        &[1, -1, 0],
+        &[0, 0, 0],
+    ),
     (
         b"PD[X[1,6,2,5],X[6,3,5,2],X[3,8,4,7],X[8,1,7,4],Loop[9]]",
         &[1, 5, 7, 9],
+        &[0, 0, 0, 0],
+        &[1, 1, 0, 0, 0, 0],
     ),
 ];
 
@@ -82,13 +95,20 @@ const HOPF: [(u32, Option<u32>); 5] = [
 
 #[test]
 fn components(rt: HostRuntime) -> Result<(), Fail> {
-    for (text, leasts) in COMPONENTS {
+    for (text, leasts, writhes, linkings) in COMPONENTS {
         let planar = check(rt.alloc(), read_pd(rt.alloc(), text)?)?;
         assert_eq!(rt; planar.components() as usize, leasts.len());
+        let mut pairs = linkings.iter();
         for before in 0..planar.components() {
             let least = planar.least_label(before + 1);
             assert_eq!(rt; leasts.get(before as usize).copied(), Some(least));
             assert_eq!(rt; planar.component_of(least), Some(before + 1));
+            let writhe = planar.writhe(before + 1);
+            assert_eq!(rt; writhes.get(before as usize).copied(), Some(writhe));
+            for other in 0..before {
+                let linking = planar.linking(before + 1, other + 1);
+                assert_eq!(rt; pairs.next().copied(), Some(linking));
+            }
         }
     }
     let hopf = check(
