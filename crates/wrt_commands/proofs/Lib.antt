@@ -4,3 +4,4 @@ pub mod OutcomeLemmas
 pub mod RunLemmas
 pub mod UniqueOutcomes
 pub mod Completeness
+mod Examples

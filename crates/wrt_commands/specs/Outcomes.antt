@@ -9,7 +9,7 @@
 --     outcome_of p reading               what a reading comes to at the parameters p; it computes
 --     IsOutcome words bytes outcome      the outcome of the words and the bytes
 --
--- At 41, 2, 5 the reading of the trefoil comes to the report "10" and a line feed.
+-- At 41, 2, 5 the reading of the trefoil comes to the report "10" and a line feed (proofs/Examples.antt).
 use Rattle.std.specs.Prelude.{◌≡◌, ◌≢◌, ◌⊎◌, ℕ, ◌-◌, ◌*◌, ◌^◌, ◌<◌, ◌≤◌, nat_lt, min, if◌then◌else◌, Bool, true, false, count_by, List, length, Option, Some, None, Result, Ok, Err, refl}
 use Rattle.root_quantum.specs.Parameters.{Parameters}
 use Rattle.root_quantum.specs.Refusals as conditions
