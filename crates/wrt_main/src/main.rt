@@ -5,7 +5,8 @@ use skein_io::{StdSink, StdSource};
 use std::alloc::AllocError;
 use std::process::ExitCode;
 use std::{env, io};
-use wrt_commands::{Status, run};
+use wrt_commands::{Refusal, Status, run};
+use wrt_request::WordsFault;
 
 /// Hands the words after the program's name and the standard streams to `run`.
 fn calculate(rt: &HostRuntime) -> io::Result<Status> {
@@ -17,11 +18,14 @@ fn calculate(rt: &HostRuntime) -> io::Result<Status> {
     Ok(run(rt.alloc(), &words, &mut source, &mut out, &mut err))
 }
 
-/// Ends with the code of the run's status: 2 where the words aren't UTF-8, and 7 where there is no memory for them.
+/// Ends with the code of the run's status. Words that aren't UTF-8 are refused words, and where there is no memory
+/// for the words the status is want of memory.
 fn main(rt: HostRuntime) -> ExitCode {
-    match calculate(&rt) {
-        Ok(status) => ExitCode::from(status.code()),
-        Err(error) if error.kind() == io::ErrorKind::OutOfMemory => ExitCode::from(7),
-        Err(_) => ExitCode::from(2),
-    }
+    let refusal = match calculate(&rt) {
+        Ok(status) => return ExitCode::from(status.code()),
+        Err(error) if error.kind() == io::ErrorKind::OutOfMemory => Refusal::Memory,
+        Err(_) => Refusal::Words(WordsFault::Refused),
+    };
+    let _ = eprintln!(rt; "wrtcalc: {refusal}");
+    ExitCode::from(refusal.status().code())
 }
