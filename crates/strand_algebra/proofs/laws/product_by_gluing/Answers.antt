@@ -1,0 +1,5 @@
+use Rattle.strand_algebra.proofs.Gluings as proof
+use Rattle.strand_algebra.proofs.laws.product_by_gluing.Goals as goal
+
+pub returns : goal.returns
+returns c = proof.glued_product

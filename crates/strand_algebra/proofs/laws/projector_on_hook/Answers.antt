@@ -1,0 +1,5 @@
+use Rattle.strand_algebra.proofs.ProjectorLaws as proof
+use Rattle.strand_algebra.proofs.laws.projector_on_hook.Goals as goal
+
+pub returns : goal.returns
+returns c = proof.projector_on_hook

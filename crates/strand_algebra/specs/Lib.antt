@@ -1,0 +1,6 @@
+pub mod StrandPairings
+pub mod Noncrossing
+pub mod Elements
+pub mod Projectors
+pub mod Laws
+pub mod GluedProducts
