@@ -1,0 +1,41 @@
+-- Worked values of the definitions.
+use Rattle.std.proofs.Common.{◌≡◌, refl, ℕ, [], ◌∷◌}
+use Rattle.graph_parts.specs.Parts as P
+use Rattle.state_sums.specs.Networks.{Node, Network}
+use Rattle.frontier_laws.specs.Orders.{listed_of, greedy_of, given_of, order_by, open_names}
+use Rattle.frontier_laws.specs.Turns.{turns, turns_of}
+
+-- A crossing on four names.
+crossing : ℕ → ℕ → ℕ → ℕ → ℕ → Node
+crossing group a b c d = record {
+  group = group;
+  ends = a ∷ b ∷ c ∷ d ∷ [];
+  terms = record { weight = 2; partner = 1 ∷ 0 ∷ 3 ∷ 2 ∷ [] } ∷ record { weight = 21; partner = 3 ∷ 2 ∷ 1 ∷ 0 ∷ [] } ∷ [];
+}
+
+trefoil : Network
+trefoil = record { nodes = crossing 1 1 4 2 5 ∷ crossing 2 3 6 4 1 ∷ crossing 3 5 2 6 3 ∷ []; free_loops = 0 }
+
+trefoil_turns : turns_of trefoil.nodes ≡ 10
+unfolding trefoil crossing P.part
+trefoil_turns = refl
+
+trefoil_listed : order_by listed_of trefoil 3 ≡ 0 ∷ 1 ∷ 2 ∷ []
+unfolding trefoil crossing P.part
+trefoil_listed = refl
+
+trefoil_greedy : order_by greedy_of trefoil 3 ≡ 0 ∷ 1 ∷ 2 ∷ []
+unfolding trefoil crossing P.part
+trefoil_greedy = refl
+
+trefoil_given : order_by (given_of (3 ∷ 1 ∷ 2 ∷ [])) trefoil 3 ≡ 2 ∷ 0 ∷ 1 ∷ []
+unfolding trefoil crossing P.part
+trefoil_given = refl
+
+trefoil_turns_given : turns trefoil (2 ∷ 0 ∷ 1 ∷ []) ≡ 10
+unfolding trefoil crossing P.part
+trefoil_turns_given = refl
+
+trefoil_open : open_names (crossing 1 1 4 2 5 ∷ crossing 2 3 6 4 1 ∷ []) ≡ 2 ∷ 3 ∷ 5 ∷ 6 ∷ []
+unfolding trefoil crossing P.part
+trefoil_open = refl

@@ -1,0 +1,19 @@
+mod Examples
+pub mod Tables
+pub mod Decoded
+pub mod ListTests
+pub mod TableSums
+pub mod NextPairings
+pub mod TableSteps
+pub mod TableCounts
+pub mod TableLoops
+pub mod TableEnds
+pub mod TableLimits
+pub mod TurnSteps
+pub mod FirstLeast
+pub mod Ranks
+pub mod OpenNamesSorted
+pub mod OpenNames
+pub mod OrdersPlaces
+pub mod OrdersTaken
+pub mod ChosenOrders

@@ -1,0 +1,13 @@
+//! The laws of orders: functions with empty bodies, whose contracts are the theorems.
+
+ghost use Rattle.frontier_laws.specs.Laws.{OneOrderLaw, WholeOrderLaw};
+
+/// Where the next node is a function of the view, the order is a function of the network.
+pub fn one_order()
+    ensures { OneOrderLaw }
+{}
+
+/// The nodes of a network in any order, each once, have its value, and leave no name open.
+pub fn whole_order()
+    ensures { WholeOrderLaw }
+{}

@@ -1,0 +1,114 @@
+-- A contraction: what holds before each step, and at the end.
+--
+-- Others cite: IsContractedTo, first, shown, some_left, one_more, stopped, swept, summed.
+use Rattle.std.proofs.Common.{◌≡◌, ◌≢◌, ℕ, ◌+◌, ◌*◌, ◌^◌, ◌%◌, ◌<◌, ◌≤◌, ◌==◌, List, [], ◌∷◌, ◌++◌, length, refl, sym, ap, subst, ◌∙◌, arith}
+use Rattle.std.specs.List.{All, range_with_len}
+use Rattle.std.specs.Map.{lookup}
+use Rattle.std.specs.Option.{unwrap_or}
+use Rattle.std.proofs.lemmas.List.{length-append}
+use Rattle.std.proofs.lemmas.List.Elements.{All-cons, All-nil}
+use Rattle.state_sums.specs.Networks.{Network}
+use Rattle.state_sums.specs.StateSums.{value}
+use Rattle.arc_pairing.specs.Nodes.{IsSmallNetwork}
+use Rattle.frontier_laws.specs.Orders.{View, view_after, taken, left_after, IsChosen}
+use Rattle.frontier_laws.proofs.ChosenOrders.{IsChosen-more, IsChosen-none}
+use Rattle.frontier_laws.proofs.OpenNames.{AreOpen-open_names}
+use Rattle.frontier_laws.proofs.OrdersPlaces.{IsPartOrder-none, left_none, order_length}
+use Rattle.frontier_laws.proofs.OrdersTaken.{AreNodes-taken, AreFew-order, whole_value, whole_closed, shown_in_view}
+use Rattle.frontier_laws.proofs.TableEnds.{table_end_value}
+use Rattle.frontier_laws.proofs.TableSteps.{table_of_none}
+use Rattle.frontier_laws.proofs.TurnSteps.{within_none}
+use Rattle.frontier_sweep.specs.Frontiers.{Frontier, IsFrontier, IsLimitAfter}
+use Rattle.frontier_sweep.specs.Sweeps.{IsSwept, IsStopped, stopped_at}
+use Rattle.frontier_sweep.specs.Views.{IsView}
+use Rattle.frontier_sweep.specs.declared.step.NotGlued.{NotGlued}
+use Rattle.frontier_sweep.specs.declared.step.NotGlued.TheVariants.{Wide, Full, Memory}
+
+-- So many nodes were taken, each by an answer on the view of those before it.
+pub record IsContractedTo (answers : View → ℕ → Type 0) (m delta : ℕ) (network : Network) (done : ℕ) (frontier : Frontier) (count : ℕ) : Type 0 where
+  pub order : List ℕ
+  pub chosen : IsChosen answers network order
+  pub whole : length order ≡ done
+  pub is : IsFrontier m delta network order frontier count
+
+one_below : (m : ℕ) → 1 < m → All (λ (entry : ℕ × ℕ). entry.1 < m) ((0, 1) ∷ [])
+one_below m some = All-cons (λ (entry : ℕ × ℕ). entry.1 < m) (0, 1) [] some (All-nil (λ (entry : ℕ × ℕ). entry.1 < m))
+
+-- At first none is taken.
+pub first : (answers : View → ℕ → Type 0) (m delta : ℕ) (network : Network) → 1 < m →
+    IsContractedTo answers m delta network 0 record { left = range_with_len 0 (length network.nodes); names = []; table = (0, 1) ∷ [] } 0
+first answers m delta network some = record {
+  order = [];
+  chosen = IsChosen-none answers network;
+  whole = refl;
+  is = record {
+    part = IsPartOrder-none (length network.nodes);
+    within = within_none;
+    left_are = sym (left_none (length network.nodes));
+    names_are = refl;
+    table_of = table_of_none m delta;
+    below = one_below m some;
+    count_is = refl;
+    few_turns = omega arith;
+  };
+}
+
+module _ (answers : View → ℕ → Type 0) (m delta : ℕ) (network : Network) (done : ℕ) (frontier : Frontier) (count : ℕ) (h : IsContractedTo answers m delta network done frontier count) where
+  -- The view of the frontier is that after the order.
+  view_is : view_after network h.order ≡ record { network = network; left = frontier.left; names = frontier.names }
+  view_is i = record { network = network; left = sym h.is.left_are i; names = sym h.is.names_are i }
+
+  pub shown : IsView record { network = network; left = frontier.left; names = frontier.names }
+  shown =
+      let s = shown_in_view network h.order h.is.part in
+      subst IsView view_is record { below = s.0; increasing = s.1; names_open = s.2 }
+
+  -- While not all are taken, some place is left.
+  pub some_left : done < length network.nodes → frontier.left ≢ []
+  some_left small none =
+      let l = order_length (length network.nodes) h.order h.is.part in
+      let e = ap (λ (left : List ℕ). length left) (sym h.is.left_are ∙ none) in
+      let w = h.whole in
+      omega (arith, l, e, w, small)
+
+  -- One more answer.
+  module _ (place : ℕ) (answer : answers record { network = network; left = frontier.left; names = frontier.names } place) where
+    chosen_more : IsChosen answers network (h.order ++ place ∷ [])
+    chosen_more = IsChosen-more answers network h.order place h.chosen (subst (λ view. answers view place) (sym view_is) answer)
+
+    whole_more : length (h.order ++ place ∷ []) ≡ done + 1
+    whole_more = length-append h.order (place ∷ []) ∙ ap (λ n. n + 1) h.whole
+
+    pub one_more : (next : Frontier) (after : ℕ) → IsFrontier m delta network (h.order ++ place ∷ []) next after → IsContractedTo answers m delta network (done + 1) next after
+    one_more next after is = record { order = h.order ++ place ∷ []; chosen = chosen_more; whole = whole_more; is = is }
+
+    -- A limit at that answer stops the contraction.
+    pub stopped : done < length network.nodes → (step : ℕ) → step ≡ done + 1 → (reason : NotGlued) → IsLimitAfter network (h.order ++ place ∷ []) reason → IsStopped answers network (stopped_at step reason)
+    stopped small step is (Wide ends) limit = record { order = h.order ++ place ∷ []; chosen = chosen_more; last = whole_more ∙ sym is; steps = (let w = whole_more in omega (arith, w, small)); limit = limit }
+    stopped small step is Full limit = record { order = h.order ++ place ∷ []; chosen = chosen_more; last = whole_more ∙ sym is; steps = (let w = whole_more in omega (arith, w, small)); limit = limit }
+    stopped small step is Memory limit = limit
+
+  -- At the end all are taken.
+  module _ (all : length network.nodes ≤ done) (small : IsSmallNetwork network) where
+    none_left : left_after (length network.nodes) h.order ≡ []
+    none_left = empty (left_after (length network.nodes) h.order) (let l = order_length (length network.nodes) h.order h.is.part in let w = h.whole in omega (arith, l, w, all))
+      where
+        empty : (xs : List ℕ) → length xs ≡ 0 → xs ≡ []
+        empty [] e = refl
+        empty (x ∷ xs) e = absurd (omega (arith, e))
+
+    pub swept : (before after : ℕ) → after ≡ before + count → IsSwept answers network before after
+    swept before after is = record {
+      order = h.order;
+      chosen = h.chosen;
+      whole = (let l = order_length (length network.nodes) h.order h.is.part in let e = ap (λ (left : List ℕ). length left) none_left in omega (arith, l, e));
+      within = h.is.within;
+      count = is ∙ ap (λ n. before + n) h.is.count_is;
+    }
+
+    pub summed : unwrap_or (lookup (◌==◌ 0) frontier.table) 0 * delta ^ network.free_loops % m ≡ value m delta network
+    summed =
+        let none = whole_closed network h.order small.twice h.is.part none_left in
+        table_end_value m delta (taken network.nodes h.order) frontier.table h.is.table_of (AreNodes-taken network h.order small.twice h.is.part) (AreFew-order network h.order small.twice h.is.part)
+        (AreOpen-open_names (taken network.nodes h.order)) none network.free_loops
+        ∙ whole_value network h.order small.twice h.is.part none_left m delta

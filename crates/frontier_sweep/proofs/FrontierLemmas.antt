@@ -1,0 +1,215 @@
+-- One step of a frontier: what it asks, where it stops, and what it leaves.
+--
+-- Others cite: IsTaking, place_in_network, taking, range_push, ready, limit, next_frontier.
+use Rattle.std.proofs.Common.{◌≡◌, ℕ, suc, ◌+◌, ◌*◌, ◌<◌, ◌≤◌, ◌==◌, true, List, [], ◌∷◌, ◌++◌, map, take, take_all, length, slice_index, get_or, sym, ap, subst, ◌∙◌, arith}
+use Rattle.std.specs.List.{All, remove, range_with_len}
+use Rattle.std.specs.List.Sorted.{IsStrictlyIncreasing}
+use Rattle.std.specs.Map.{keys_of}
+use Rattle.std.specs.Set.{is_member}
+use Rattle.std.proofs.lemmas.List.{get_or-map, get_or_default, take-map, length-map, length-append}
+use Rattle.std.proofs.Math.Nat.{mul-le-mul}
+use Rattle.std.proofs.lemmas.List.Elements.{All-get_or, All-nil}
+use Rattle.state_sums.specs.Networks.{Node, Network, Term, IsNode, WeightsBelow, names_of, times_in}
+use Rattle.arc_gluing.specs.Laws.{AreFew}
+use Rattle.arc_gluing.specs.Pairings.{AreOpen}
+use Rattle.arc_pairing.specs.Gluing.{Seam, single_count}
+use Rattle.arc_pairing.specs.Nodes.{IsShortNode, IsSmallNetwork}
+use Rattle.frontier_laws.specs.Orders.{node_at, taken, left_after, open_names, IsPartOrder}
+use Rattle.frontier_laws.specs.Tables.{IsTableOf, add_all, contribution, contributions}
+use Rattle.frontier_laws.specs.Turns.{IsWithinAt, IsWithin, IsWideAt, IsFullAt, open_count, pairing_count, turns, turns_of}
+use Rattle.frontier_laws.proofs.NextPairings.{seam_of}
+use Rattle.frontier_laws.proofs.OpenNames.{AreOpen-open_names, increasing-open_names, open_after, open_count-after, few_after}
+use Rattle.frontier_laws.proofs.OrdersPlaces.{IsPartOrder-more, left_below, left_more, order_length}
+use Rattle.frontier_laws.proofs.OrdersTaken.{taken_more, AreNodes-taken, AreFew-order}
+use Rattle.frontier_laws.proofs.TableCounts.{table_length}
+use Rattle.frontier_laws.proofs.TableEnds.{entry_spelled}
+use Rattle.frontier_laws.proofs.TableLimits.{new_code_fits_at}
+use Rattle.frontier_laws.proofs.TableSteps.{table_after}
+use Rattle.frontier_laws.proofs.Tables.{add_all-append, add_all-below}
+use Rattle.frontier_laws.proofs.TurnSteps.{range_more, turns_after, within_after, wide_after, full_after}
+use Rattle.frontier_sweep.specs.Frontiers.{Frontier, IsFrontier, IsLimitAfter}
+use Rattle.frontier_sweep.specs.NotGluedNodes.{Explains}
+use Rattle.frontier_sweep.specs.Steps.{IsReady, IsSeamOf, OverflowsIn, OverflowsAt}
+use Rattle.frontier_sweep.specs.declared.step.NotGlued.{NotGlued}
+use Rattle.frontier_sweep.specs.declared.step.NotGlued.TheVariants.{Wide, Full, Memory}
+
+-- The node at a place that is left is taken.
+pub record IsTaking (m : ℕ) (network : Network) (frontier : Frontier) (place : ℕ) (node : Node) : Type 0 where
+  pub small : IsSmallNetwork network
+  pub weights : WeightsBelow m network.nodes
+  pub some : 0 < m
+  pub left : is_member ◌==◌ frontier.left place ≡ true
+  pub node_is : node ≡ node_at network.nodes place
+
+-- A place that is left is one of the network's.
+pub place_in_network : (m delta : ℕ) (network : Network) (order : List ℕ) (frontier : Frontier) (count : ℕ) → IsFrontier m delta network order frontier count →
+    (place : ℕ) → is_member ◌==◌ frontier.left place ≡ true → place < length network.nodes
+place_in_network m delta network order frontier count h place left = (left_below (length network.nodes) order place (subst (λ left. is_member ◌==◌ left place ≡ true) h.left_are left)).0
+
+-- The node that is read at a place is the network's there.
+node_read : (network : Network) (nodes : List Node) (place : ℕ) (node : Node) → nodes ≡ network.nodes → place < length network.nodes → node ≡ get_or nodes place node → node ≡ node_at network.nodes place
+node_read network nodes place node same below read =
+    read ∙ ap (λ nodes. get_or nodes place node) same ∙ get_or_default network.nodes place node record { group = 0; ends = []; terms = [] } below
+
+-- So it is taken.
+pub taking : (m delta : ℕ) (network : Network) (order : List ℕ) (frontier : Frontier) (count : ℕ) → IsFrontier m delta network order frontier count →
+    IsSmallNetwork network → WeightsBelow m network.nodes → 0 < m → (place : ℕ) → is_member ◌==◌ frontier.left place ≡ true →
+    (nodes : List Node) (node : Node) → nodes ≡ network.nodes → node ≡ get_or nodes place node → IsTaking m network frontier place node
+taking m delta network order frontier count h small weights some place left nodes node same read = record {
+  small = small;
+  weights = weights;
+  some = some;
+  left = left;
+  node_is = node_read network nodes place node same (place_in_network m delta network order frontier count h place left) read;
+}
+
+pub range_push : (n : ℕ) → range_with_len 0 (n + 1) ≡ range_with_len 0 n ++ n ∷ []
+range_push n =
+    (let e : n + 1 ≡ suc n = omega arith in ap (range_with_len 0) e)
+    ∙ range_more 0 n
+    ∙ ap (λ k. range_with_len 0 n ++ k ∷ []) (let e : 0 + n ≡ n = omega arith in e)
+
+-- A product of two numbers within their bounds.
+product_bound : (a b c d : ℕ) → a ≤ c → b ≤ d → a * b ≤ c * d
+product_bound a b c d small few = mul-le-mul small few
+
+module _ (m delta : ℕ) (network : Network) (order : List ℕ) (frontier : Frontier) (count : ℕ) (h : IsFrontier m delta network order frontier count)
+    (place : ℕ) (node : Node) (t : IsTaking m network frontier place node) where
+  before : List Node
+  before = taken network.nodes order
+
+  in_left : is_member ◌==◌ (left_after (length network.nodes) order) place ≡ true
+  in_left = subst (λ left. is_member ◌==◌ left place ≡ true) h.left_are t.left
+
+  pub place_below : place < length network.nodes
+  place_below = (left_below (length network.nodes) order place in_left).0
+
+  part_more : IsPartOrder (length network.nodes) (order ++ place ∷ [])
+  part_more = IsPartOrder-more (length network.nodes) order place h.part in_left
+
+  more : taken network.nodes (order ++ place ∷ []) ≡ taken network.nodes order ++ node ∷ []
+  more = taken_more network.nodes order place ∙ ap (λ (node : Node). taken network.nodes order ++ node ∷ []) (sym t.node_is)
+
+  node_ok : IsNode node
+  node_ok = subst IsNode (sym t.node_is) (All-get_or IsNode network.nodes place record { group = 0; ends = []; terms = [] } place_below t.small.twice.nodes)
+
+  ok : All IsNode (taken network.nodes order)
+  ok = AreNodes-taken network order t.small.twice h.part
+
+  few_before : AreFew (taken network.nodes order)
+  few_before = AreFew-order network order t.small.twice h.part
+
+  few : AreFew (taken network.nodes order ++ node ∷ [])
+  few = subst AreFew more (AreFew-order network (order ++ place ∷ []) t.small.twice part_more)
+
+  within_before : IsWithinAt (taken network.nodes order) (length (taken network.nodes order))
+  within_before = h.within (length (taken network.nodes order)) (omega arith)
+
+  narrow : open_count (taken network.nodes order) ≤ 24
+  narrow = subst (λ nodes. open_count nodes ≤ 24) (take_all (length (taken network.nodes order)) (taken network.nodes order) (omega arith)) within_before.narrow
+
+  open_in : AreOpen (names_of (taken network.nodes order)) (open_names (taken network.nodes order))
+  open_in = AreOpen-open_names (taken network.nodes order)
+
+  open_out : AreOpen (names_of (taken network.nodes order ++ node ∷ [])) (open_names (taken network.nodes order ++ node ∷ []))
+  open_out = AreOpen-open_names (taken network.nodes order ++ node ∷ [])
+
+  table_long : length frontier.table ≡ pairing_count (taken network.nodes order)
+  table_long = table_length m delta (taken network.nodes order) frontier.table ok few_before open_in narrow h.table_of
+
+  few_pairings : length frontier.table ≤ 262144
+  few_pairings =
+      let w = subst (λ nodes. pairing_count nodes ≤ 262144) (take_all (length (taken network.nodes order)) (taken network.nodes order) (omega arith)) within_before.few in
+      let e = table_long in
+      omega (arith, w, e)
+
+  -- The node can be glued.
+  pub ready : IsReady m frontier.names node frontier.table count
+  ready = record {
+    few_names = subst (λ (names : List ℕ). length names ≤ 24) (sym h.names_are) narrow;
+    increasing = subst IsStrictlyIncreasing (sym h.names_are) (increasing-open_names (taken network.nodes order));
+    few = subst (λ (names : List ℕ). (x : ℕ) → times_in (names ++ node.ends) x ≤ 2) (sym h.names_are) (few_after (taken network.nodes order) node few);
+    codes = λ i small.
+        let s = entry_spelled m delta (taken network.nodes order) frontier.table h.table_of ok few_before open_in narrow i (0, 0) small in
+        record { again = s.again; short = s.open_pairing.short; whole = s.open_pairing.whole ∙ ap (λ (names : List ℕ). length names) (sym h.names_are) };
+    coefficients = λ i small. All-get_or (λ (entry : ℕ × ℕ). entry.1 < m) frontier.table i (0, 0) small h.below;
+    weights = subst (λ (node : Node). All (λ term. term.weight < m) node.terms) (sym t.node_is) (All-get_or (λ (node : Node). All (λ term. term.weight < m) node.terms) network.nodes place record { group = 0; ends = []; terms = [] } place_below t.weights);
+    some = t.some;
+    few_pairings = few_pairings;
+    room = (let f = h.few_turns in let l = order_length (length network.nodes) order h.part in let n = t.small.few_nodes in omega (arith, f, l, n));
+  }
+
+  -- ---- where it stops
+  wide : (ends : ℕ) → 24 < single_count (frontier.names ++ node.ends) → ends ≡ single_count (frontier.names ++ node.ends) → IsWideAt (taken network.nodes (order ++ place ∷ [])) ends
+  wide ends many is =
+      let count : single_count (frontier.names ++ node.ends) ≡ open_count (taken network.nodes order ++ node ∷ []) =
+      ap (λ (names : List ℕ). single_count (names ++ node.ends)) h.names_are ∙ open_count-after (taken network.nodes order) node few in
+      subst (λ nodes. IsWideAt nodes ends) (sym more) (wide_after (taken network.nodes order) node ends h.within (sym count ∙ sym is) (omega (arith, many, is)))
+
+  -- A seam of the open names and the node is the one of the laws.
+  pub seam_is : (seam : Seam) → IsSeamOf frontier.names node.ends seam → seam ≡ seam_of (taken network.nodes order) node
+  seam_is seam is =
+      let inner = is.inner ∙ h.names_are in
+      let outer = open_after (taken network.nodes order) node few seam.outer (subst (λ (names : List ℕ). AreOpen (names ++ node.ends) seam.outer) h.names_are is.outer) is.ascending in
+      λ i. record { inner = inner i; ends = is.ends_are i; outer = outer i }
+
+  narrow_after : (seam : Seam) → IsSeamOf frontier.names node.ends seam → open_count (taken network.nodes order ++ node ∷ []) ≤ 24
+  narrow_after seam is = subst (λ (seam : Seam). length seam.outer ≤ 24) (seam_is seam is) is.narrow
+
+  full : OverflowsAt m delta frontier.names node frontier.table → IsFullAt (taken network.nodes (order ++ place ∷ []))
+  full over =
+      let nodes = taken network.nodes order in
+      let seam = seam_of nodes node in
+      let inside = subst (λ seam. OverflowsIn m delta seam node.terms frontier.table) (seam_is over.seam over.is) over.over in
+      let entry = get_or frontier.table inside.entry (0, 0) in
+      let items = map (contribution delta seam entry) node.terms in
+      let done = contributions delta seam node.terms (take inside.entry frontier.table) in
+      let at = inside.over.at in
+      let none : Term = record { weight = 0; partner = [] } in
+      let term_in : at < length node.terms = (let w = inside.over.within in let l = length-map node.terms (contribution delta seam entry) in omega (arith, w, l)) in
+      let so_far : add_all m (add_all m [] done) (take at items) ≡ add_all m [] (done ++ map (contribution delta seam entry) (take at node.terms)) =
+      ap (add_all m (add_all m [] done)) (take-map (contribution delta seam entry) at node.terms) ∙ sym (add_all-append m [] done (map (contribution delta seam entry) (take at node.terms))) in
+      let item = get_or-map (contribution delta seam entry) node.terms at none (0, 0) term_in in
+      let new =
+      ap (λ (table : List (ℕ × ℕ)). is_member ◌==◌ (keys_of table) (contribution delta seam entry (get_or node.terms at none)).0) (sym so_far)
+      ∙ ap (λ (item : ℕ × ℕ). is_member ◌==◌ (keys_of (add_all m (add_all m [] done) (take at items))) item.0) (sym item)
+      ∙ inside.over.new in
+      let many = subst (λ (table : List (ℕ × ℕ)). 262144 ≤ length table) so_far inside.over.full in
+      let fits = new_code_fits_at nodes node ok node_ok few narrow (narrow_after over.seam over.is) open_in open_out m delta frontier.table h.table_of inside.entry at (0, 0) none inside.within term_in new in
+      subst IsFullAt (sym more) (full_after nodes node h.within (narrow_after over.seam over.is) (omega (arith, many, fits)))
+
+  -- A reason against the node is a limit that its place meets.
+  pub limit : (reason : NotGlued) → Explains m delta frontier.names node frontier.table reason → IsLimitAfter network (order ++ place ∷ []) reason
+  limit (Wide ends) explains = wide ends explains.0 explains.1
+  limit Full explains = full explains
+  limit Memory explains = explains
+
+  -- ---- what it leaves
+  pub next_frontier : (seam : Seam) → IsSeamOf frontier.names node.ends seam → IsShortNode node → (at : ℕ) → at < length frontier.left → slice_index frontier.left at ≡ place →
+      (table : List (ℕ × ℕ)) → table ≡ add_all m [] (contributions delta seam node.terms frontier.table) → length table ≤ 262144 → (after : ℕ) → after ≡ count + length frontier.table * length node.terms →
+      IsFrontier m delta network (order ++ place ∷ []) record { left = remove frontier.left at; names = seam.outer; table = table } after
+  next_frontier seam is short at in_range here table table_is few_after after after_is =
+      let nodes = taken network.nodes order in
+      let glued = ap (λ seam. add_all m [] (contributions delta seam node.terms frontier.table)) (seam_is seam is) in
+      let table_of : IsTableOf m delta (nodes ++ node ∷ []) table = subst (IsTableOf m delta (nodes ++ node ∷ [])) (sym (table_is ∙ glued)) (table_after nodes node ok node_ok few narrow open_in open_out m delta frontier.table h.table_of) in
+      let few_after_nodes = subst AreFew (sym more) few in
+      let long : length table ≡ pairing_count (nodes ++ node ∷ []) =
+      table_length m delta (nodes ++ node ∷ []) table (subst (All IsNode) more (AreNodes-taken network (order ++ place ∷ []) t.small.twice part_more)) few open_out (narrow_after seam is) table_of in
+      let same : turns network (order ++ place ∷ []) ≡ turns_of nodes + pairing_count nodes * length node.terms = ap turns_of more ∙ turns_after nodes node in
+      record {
+        part = part_more;
+        within = subst IsWithin (sym more) (within_after nodes node h.within (narrow_after seam is) (omega (arith, long, few_after)));
+        left_are =
+            ap (λ (left : List ℕ). remove left at) h.left_are
+            ∙ sym (left_more (length network.nodes) order place at (subst (λ (left : List ℕ). at < length left) h.left_are in_range) (ap (λ left. slice_index left at) (sym h.left_are) ∙ here));
+        names_are = ap (λ (seam : Seam). seam.outer) (seam_is seam is) ∙ ap open_names (sym more);
+        table_of = subst (λ nodes. IsTableOf m delta nodes table) (sym more) table_of;
+        below = subst (All (λ entry. entry.1 < m)) (sym table_is) (add_all-below m (contributions delta seam node.terms frontier.table) [] t.some (All-nil (λ (entry : ℕ × ℕ). entry.1 < m)));
+        count_is = after_is ∙ ap (λ n. n + length frontier.table * length node.terms) h.count_is ∙ ap (λ n. turns network order + n * length node.terms) table_long ∙ sym same;
+        few_turns =
+            (let b = product_bound (length frontier.table) (length node.terms) 262144 1048576 few_pairings short.few_terms in
+            let f = h.few_turns in
+            let l = ap (λ nodes. length nodes) more in
+            let long_order : length (order ++ place ∷ []) ≡ length order + 1 = length-append order (place ∷ []) in
+            omega (arith, b, f, after_is, long_order));
+      }

@@ -1,0 +1,4 @@
+pub mod Entries
+pub mod StepLemmas
+pub mod FrontierLemmas
+pub mod Contractions

@@ -1,0 +1,101 @@
+-- The turns of the loops of a step.
+--
+-- Others cite: IsGluedTo, glued_more, glued_over, IsGluedToAll, entry_more, entry_over, some_same.
+use Rattle.std.proofs.Common.{◌≡◌, ℕ, ◌+◌, ◌*◌, ◌<◌, ◌≤◌, ◌%◌, ◌==◌, false, List, [], ◌∷◌, ◌++◌, map, take, length, get_or, Some, sym, ap, subst, ◌∙◌, arith}
+use Rattle.std.specs.List.{All}
+use Rattle.std.specs.Map.{keys_of}
+use Rattle.std.specs.Option.{unwrap_or}
+use Rattle.std.specs.Set.{is_member}
+use Rattle.std.proofs.lemmas.List.{get_or-map, take-map, length-map, map-append, take_more}
+use Rattle.state_sums.specs.Networks.{Term}
+use Rattle.arc_pairing.specs.Gluing.{Seam}
+use Rattle.frontier_laws.specs.Tables.{add_in, add_all, glued_item, contribution, contributions}
+use Rattle.frontier_laws.proofs.Tables.{add_in-residue, add_in-below, add_all-push, add_all-append, add_all-below}
+use Rattle.frontier_laws.proofs.TableLimits.{added_all_at}
+use Rattle.frontier_sweep.specs.LoopPowers.{LoopPowers}
+use Rattle.frontier_sweep.specs.Steps.{Overflows, OverflowsIn}
+
+-- The first so many terms are glued to the pairing.
+pub record IsGluedTo (powers : LoopPowers) (seam : Seam) (partner : List ℕ) (coefficient : ℕ) (terms : List Term) (old : List (ℕ × ℕ)) (count done : ℕ) (next : List (ℕ × ℕ)) (turns : ℕ) : Type 0 where
+  pub table : next ≡ add_all powers.modulus old (map (glued_item powers.delta seam partner coefficient) (take done terms))
+  pub below : All (λ entry. entry.1 < powers.modulus) next
+  pub few : length next ≤ 262144
+  pub count_is : turns ≡ count + done
+
+-- So far map and take, one term more.
+taken_more : {X : Type 0} (f : X → ℕ × ℕ) (xs : List X) (j : ℕ) (d : X) → j < length xs → map f (take (j + 1) xs) ≡ map f (take j xs) ++ f (get_or xs j d) ∷ []
+taken_more f xs j d within = ap (map f) (take_more xs j d within) ∙ map-append f (take j xs) (get_or xs j d ∷ [])
+
+module _ (powers : LoopPowers) (seam : Seam) (partner : List ℕ) (coefficient : ℕ) (terms : List Term) (old next : List (ℕ × ℕ)) (count j turns : ℕ)
+    (h : IsGluedTo powers seam partner coefficient terms old count j next turns) (within : j < length terms) (term : Term) (read : term ≡ get_or terms j term) where
+  abbrev pub item : Term → ℕ × ℕ
+  item = glued_item powers.delta seam partner coefficient
+
+  -- One term more.
+  pub glued_more : (code more : ℕ) (after : List (ℕ × ℕ)) → code ≡ (item term).0 → more ≡ (item term).1 % powers.modulus → more < powers.modulus → after ≡ add_in powers.modulus code more next → length after ≤ 262144 →
+      IsGluedTo powers seam partner coefficient terms old count (j + 1) after (turns + 1)
+  glued_more code more after code_is more_is small after_is few = record {
+    few = few;
+    table =
+        after_is
+        ∙ ap (λ code. add_in powers.modulus code more next) code_is
+        ∙ ap (λ more. add_in powers.modulus (item term).0 more next) more_is
+        ∙ add_in-residue powers.modulus (item term).0 (item term).1 next
+        ∙ ap (add_in powers.modulus (item term).0 (item term).1) h.table
+        ∙ sym (add_all-push powers.modulus old (map item (take j terms)) (item term))
+        ∙ ap (λ last. add_all powers.modulus old (map item (take j terms) ++ item last ∷ [])) read
+        ∙ ap (add_all powers.modulus old) (sym (taken_more item terms j term within));
+    below = subst (All (λ entry. entry.1 < powers.modulus)) (sym after_is) (add_in-below powers.modulus code more next (omega (arith, small)) h.below);
+    count_is = (let e = h.count_is in omega (arith, e));
+  }
+
+  -- A code that is new where there are 262,144.
+  pub glued_over : (code : ℕ) → code ≡ (item term).0 → is_member ◌==◌ (keys_of next) code ≡ false → 262144 ≤ length next → Overflows powers.modulus old (map item terms)
+  glued_over code code_is new full =
+      let front = ap (add_all powers.modulus old) (sym (take-map item j terms)) in
+      record {
+        at = j;
+        within = (let e = length-map terms item in omega (arith, within, e));
+        new =
+            ap (λ table. is_member ◌==◌ (keys_of table) (get_or (map item terms) j (0, 0)).0) (sym front ∙ sym h.table)
+            ∙ ap (λ (entry : ℕ × ℕ). is_member ◌==◌ (keys_of next) entry.0) (get_or-map item terms j term (0, 0) within ∙ ap item (sym read))
+            ∙ ap (is_member ◌==◌ (keys_of next)) (sym code_is)
+            ∙ new;
+        full = subst (λ (table : List (ℕ × ℕ)). 262144 ≤ length table) (h.table ∙ front) full;
+      }
+
+-- The terms are glued to the first so many entries.
+pub record IsGluedToAll (powers : LoopPowers) (seam : Seam) (terms : List Term) (table : List (ℕ × ℕ)) (count done : ℕ) (next : List (ℕ × ℕ)) (turns : ℕ) : Type 0 where
+  pub table_is : next ≡ add_all powers.modulus [] (contributions powers.delta seam terms (take done table))
+  pub below : All (λ entry. entry.1 < powers.modulus) next
+  pub few : length next ≤ 262144
+  pub count_is : turns ≡ count + done * length terms
+
+module _ (powers : LoopPowers) (seam : Seam) (terms : List Term) (table next : List (ℕ × ℕ)) (count i turns : ℕ) (h : IsGluedToAll powers seam terms table count i next turns) (within : i < length table) (entry : ℕ × ℕ)
+    (read : entry ≡ get_or table i (0, 0)) where
+  -- One entry more.
+  pub entry_more : 0 < powers.modulus → (after : List (ℕ × ℕ)) → after ≡ add_all powers.modulus next (map (contribution powers.delta seam entry) terms) → length after ≤ 262144 →
+      IsGluedToAll powers seam terms table count (i + 1) after (turns + length terms)
+  entry_more some after after_is few = record {
+    few = few;
+    table_is =
+        after_is
+        ∙ ap (λ so_far. add_all powers.modulus so_far (map (contribution powers.delta seam entry) terms)) h.table_is
+        ∙ sym (add_all-append powers.modulus [] (contributions powers.delta seam terms (take i table)) (map (contribution powers.delta seam entry) terms))
+        ∙ ap (λ last. add_all powers.modulus [] (contributions powers.delta seam terms (take i table) ++ map (contribution powers.delta seam last) terms)) read
+        ∙ added_all_at powers.modulus powers.delta seam terms table i (0, 0) within;
+    below = subst (All (λ entry. entry.1 < powers.modulus)) (sym after_is) (add_all-below powers.modulus (map (contribution powers.delta seam entry) terms) next some h.below);
+    count_is = (let e = h.count_is in let n = length terms in let d : (i + 1) * n ≡ i * n + n = omega arith in omega (arith, e, d));
+  }
+
+  -- An overflow at that entry.
+  pub entry_over : Overflows powers.modulus next (map (contribution powers.delta seam entry) terms) → OverflowsIn powers.modulus powers.delta seam terms table
+  entry_over over = record {
+    entry = i;
+    within = within;
+    over = subst (λ so_far. Overflows powers.modulus so_far (map (contribution powers.delta seam (get_or table i (0, 0))) terms)) h.table_is
+        (subst (λ last. Overflows powers.modulus next (map (contribution powers.delta seam last) terms)) read over);
+  }
+
+pub some_same : {X : Type 0} (x y : X) → Some x ≡ Some y → x ≡ y
+some_same x y same = ap (λ found. unwrap_or found x) same

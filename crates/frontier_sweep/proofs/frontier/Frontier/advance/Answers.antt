@@ -1,0 +1,66 @@
+use Rattle.std.proofs.Common.{ℕ, ◌<◌, ◌≤◌, ◌+◌, ◌*◌, List, [], ◌∷◌, ◌++◌, length, slice_index, sym, ap, subst, ◌∙◌}
+use Rattle.std.specs.List.{remove}
+use Rattle.state_sums.specs.Networks.{Node}
+use Rattle.frontier_laws.specs.Tables.{add_all, contributions}
+use Rattle.frontier_sweep.specs.Frontiers.{Frontier, IsFrontier}
+use Rattle.frontier_sweep.specs.NotGluedNodes.{Explains}
+use Rattle.frontier_sweep.specs.Steps.{IsReady, IsSeamOf}
+use Rattle.frontier_sweep.proofs.FrontierLemmas.{place_in_network, taking, ready, limit, next_frontier}
+use Rattle.frontier_sweep.proofs.frontier.Frontier.advance.Goals as goal
+
+pub bounds-nodes-place : goal.bounds-nodes-place
+bounds-nodes-place c =
+    let f = c.requires.frontier in
+    subst (λ (nodes : List Node). c.args.place < length nodes) (sym c.nodes.ensures.value) (place_in_network c.args.powers.now.modulus c.args.powers.now.delta c.args.network.now f.0 c.args.self.now c.args.turns.now f.1 c.args.place c.requires.left)
+
+pub glue_node-requires : goal.glue_node-requires
+glue_node-requires c =
+    let m = c.args.powers.now.modulus in
+    let delta = c.args.powers.now.delta in
+    let network = c.args.network.now in
+    let f = c.requires.frontier in
+    let node = c.index-nodes-place.result in
+    let taken = taking m delta network f.0 c.args.self.now c.args.turns.now f.1 c.nodes.ensures.network c.requires.weights c.requires.some c.args.place c.requires.left c.nodes.result.now node c.nodes.ensures.value c.index-nodes-place.is in
+    let names = c.as_slice.ensures.value ∙ ap (λ (frontier : Frontier). frontier.names) c.self.view_is in
+    let table = ap (λ (frontier : Frontier). frontier.table) c.self.view_is in
+    subst (λ (names : List ℕ). IsReady m names node c.self.inside.table c.args.turns.now) (sym names)
+    (subst (λ (table : List (ℕ × ℕ)). IsReady m c.args.self.now.names node table c.args.turns.now) (sym table) (ready m delta network f.0 c.args.self.now c.args.turns.now f.1 c.args.place node taken))
+
+pub returns-in-Err-clause-refused : goal.returns-in-Err-clause-refused
+returns-in-Err-clause-refused c order h =
+    let m = c.args.powers.now.modulus in
+    let delta = c.args.powers.now.delta in
+    let network = c.args.network.now in
+    let node = c.index-nodes-place.result in
+    let taken = taking m delta network order c.args.self.now c.args.turns.now h c.nodes.ensures.network c.requires.weights c.requires.some c.args.place c.requires.left c.nodes.result.now node c.nodes.ensures.value c.index-nodes-place.is in
+    let names = c.as_slice.ensures.value ∙ ap (λ (frontier : Frontier). frontier.names) c.self.view_is in
+    let table = ap (λ (frontier : Frontier). frontier.table) c.self.view_is in
+    limit m delta network order c.args.self.now c.args.turns.now h c.args.place node taken c.in-Err.reason
+    (subst (λ (names : List ℕ). Explains m delta names node c.args.self.now.table c.in-Err.reason) names
+    (subst (λ (table : List (ℕ × ℕ)). Explains m delta c.as_slice.result.now node table c.in-Err.reason) table (c.in-Err.ensures {u = tt}).refused))
+
+pub returns-clause-after : goal.returns-clause-after
+returns-clause-after c order h =
+    let m = c.args.powers.now.modulus in
+    let delta = c.args.powers.now.delta in
+    let network = c.args.network.now in
+    let node = c.index-nodes-place.result in
+    let taken = taking m delta network order c.args.self.now c.args.turns.now h c.nodes.ensures.network c.requires.weights c.requires.some c.args.place c.requires.left c.nodes.result.now node c.nodes.ensures.value c.index-nodes-place.is in
+    let names = c.as_slice.ensures.value ∙ ap (λ (frontier : Frontier). frontier.names) c.self.view_is in
+    let table = ap (λ (frontier : Frontier). frontier.table) c.self.view_is in
+    let left = ap (λ (frontier : Frontier). frontier.left) c.self.view_is in
+    let glued = c.in-Ok.ensures {u = tt} in
+    let seam = subst (λ (names : List ℕ). IsSeamOf names node.ends c.in-Ok.seam) names glued.seam in
+    let at = c.index_of-index.result in
+    let inside_left = c.deref.ensures.value in
+    let in_range = subst (λ (left : List ℕ). at < length left) (inside_left ∙ left) c.index_of-index.ensures.within in
+    let here = ap (λ (left : List ℕ). slice_index left at) (sym (inside_left ∙ left)) ∙ c.index_of-index.ensures.place in
+    let next = c.swap.new.x in
+    let next_is = c.swap.ensures.x_after ∙ glued.added ∙ ap (λ (table : List (ℕ × ℕ)). add_all m [] (contributions delta c.in-Ok.seam node.terms table)) table in
+    let few = subst (λ (table : List (ℕ × ℕ)). length table ≤ 262144) (sym c.swap.ensures.x_after) glued.few in
+    let turns = glued.turns ∙ ap (λ (table : List (ℕ × ℕ)). c.args.turns.now + length table * length node.terms) table in
+    let after = next_frontier m delta network order c.args.self.now c.args.turns.now h c.args.place node taken c.in-Ok.seam seam glued.node at in_range here next next_is few c.glue_node.new.turns turns in
+    let left_after = c.remove.ensures.items ∙ ap (λ (left : List ℕ). remove left at) left in
+    let names_after = c.copied-self-inside.ensures ∙ c.names.ensures.value in
+    subst (λ (left : List ℕ). IsFrontier m delta network (order ++ c.args.place ∷ []) record { left = left; names = c.copied-self-inside.result.items; table = next } c.glue_node.new.turns) (sym left_after)
+    (subst (λ (names : List ℕ). IsFrontier m delta network (order ++ c.args.place ∷ []) record { left = remove c.args.self.now.left at; names = names; table = next } c.glue_node.new.turns) (sym names_after) after)

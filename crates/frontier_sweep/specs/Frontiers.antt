@@ -1,0 +1,37 @@
+-- What a contraction keeps between two steps.
+--
+--     Frontier                                      the places left, the open names, and the table of their pairings
+--     IsFrontier m delta network order frontier turns
+--                                                   the frontier, and the turns so far, when the nodes of the order are taken
+--     IsLimitAfter network order reason             the limit that the last place of the order meets
+use Rattle.std.specs.Prelude.{◌≡◌, ℕ, ◌*◌, ◌<◌, ◌≤◌, List, length, ⊤}
+use Rattle.std.specs.List.{All}
+use Rattle.state_sums.specs.Networks.{Network}
+use Rattle.frontier_laws.specs.Orders.{taken, left_after, open_names, IsPartOrder}
+use Rattle.frontier_laws.specs.Tables.{IsTableOf}
+use Rattle.frontier_laws.specs.Turns.{turns, IsWithin, IsWideAt, IsFullAt}
+use Rattle.frontier_sweep.specs.declared.step.NotGlued.{NotGlued}
+use Rattle.frontier_sweep.specs.declared.step.NotGlued.TheVariants.{Wide, Full, Memory}
+
+-- The places left, the open names, and the table of their pairings.
+pub record Frontier : Type 0 where
+  pub left : List ℕ
+  pub names : List ℕ
+  pub table : List (ℕ × ℕ)
+
+-- The nodes of the order are taken, and no limit was met; 2^38 is the most that a step adds to the turns.
+pub record IsFrontier (m delta : ℕ) (network : Network) (order : List ℕ) (frontier : Frontier) (count : ℕ) : Type 0 where
+  pub part : IsPartOrder (length network.nodes) order
+  pub within : IsWithin (taken network.nodes order)
+  pub left_are : frontier.left ≡ left_after (length network.nodes) order
+  pub names_are : frontier.names ≡ open_names (taken network.nodes order)
+  pub table_of : IsTableOf m delta (taken network.nodes order) frontier.table
+  pub below : All (λ entry. entry.1 < m) frontier.table
+  pub count_is : count ≡ turns network order
+  pub few_turns : count ≤ length order * 274877906944
+
+-- The last place meets that limit, and none before does.
+abbrev pub IsLimitAfter : Network → List ℕ → NotGlued → Type 0
+IsLimitAfter network order (Wide ends) = IsWideAt (taken network.nodes order) ends
+IsLimitAfter network order Full = IsFullAt (taken network.nodes order)
+IsLimitAfter network order Memory = ⊤

@@ -1,0 +1,71 @@
+-- What a step asks of the terms that it glues, and where its table overflows.
+--
+--     FitsSeam m seam term        the term pairs the ends of the node, and its weight is below m
+--     OverflowsIn m delta seam terms table    one of the entries does so, when the terms are glued to it
+--     IsSeamOf names ends seam    the seam of open names and the ends of a node
+--     IsReady m names node table count       the node can be glued to the table
+--     OverflowsAt m delta names node table   an entry does so with such a seam
+--     Spells points code          the code spells a pairing of that many points
+--     Overflows m table items     one of the items, added behind those before it, is a new code, and there are 262,144
+use Rattle.std.specs.Prelude.{◌≡◌, ℕ, ◌<◌, ◌≤◌, ◌==◌, false, List, [], ◌++◌, ◌^◌, length, map, take, get_or}
+use Rattle.std.specs.List.{All}
+use Rattle.std.specs.List.Sorted.{IsStrictlyIncreasing}
+use Rattle.std.specs.Map.{keys_of}
+use Rattle.std.specs.Set.{is_member}
+use Rattle.state_sums.specs.Networks.{Node, Term, times_in}
+use Rattle.arc_gluing.specs.Pairings.{AreOpen}
+use Rattle.arc_pairing.specs.Codes.{code_of}
+use Rattle.arc_pairing.specs.Gluing.{Seam}
+use Rattle.arc_pairing.specs.Pairings.{IsShortPairing}
+use Rattle.frontier_laws.specs.Tables.{decoded, add_all, contribution, contributions}
+
+-- The term pairs the ends of the node, and its weight is below m.
+pub record FitsSeam (m : ℕ) (seam : Seam) (term : Term) : Type 0 where
+  pub whole : length term.partner ≡ length seam.ends
+  pub below : term.weight < m
+
+-- The item at that place, added behind those before it, has a new code, and the table has 262,144 codes.
+pub record Overflows (m : ℕ) (table items : List (ℕ × ℕ)) : Type 0 where
+  pub at : ℕ
+  pub within : at < length items
+  pub new : is_member ◌==◌ (keys_of (add_all m table (take at items))) (get_or items at (0, 0)).0 ≡ false
+  pub full : 262144 ≤ length (add_all m table (take at items))
+
+-- One of the entries of a table overflows the next one, when the terms are glued to it.
+pub record OverflowsIn (m delta : ℕ) (seam : Seam) (terms : List Term) (table : List (ℕ × ℕ)) : Type 0 where
+  pub entry : ℕ
+  pub within : entry < length table
+  pub over : Overflows m (add_all m [] (contributions delta seam terms (take entry table))) (map (contribution delta seam (get_or table entry (0, 0))) terms)
+
+-- The code spells a pairing of that many points.
+pub record Spells (points code : ℕ) : Type 0 where
+  pub again : code_of (decoded code) ≡ code
+  pub short : IsShortPairing (decoded code)
+  pub whole : length (decoded code) ≡ points
+
+-- The seam of open names and the ends of a node.
+pub record IsSeamOf (names ends : List ℕ) (seam : Seam) : Type 0 where
+  pub inner : seam.inner ≡ names
+  pub ends_are : seam.ends ≡ ends
+  pub outer : AreOpen (names ++ ends) seam.outer
+  pub ascending : IsStrictlyIncreasing seam.outer
+  pub narrow : length seam.outer ≤ 24
+
+-- With some seam of the open names and the node, an entry overflows the next table.
+pub record OverflowsAt (m delta : ℕ) (names : List ℕ) (node : Node) (table : List (ℕ × ℕ)) : Type 0 where
+  pub seam : Seam
+  pub is : IsSeamOf names node.ends seam
+  pub over : OverflowsIn m delta seam node.terms table
+
+-- The node can be glued: of its ends and the open names none stands thrice, the codes spell pairings of the open names, all
+-- weights and coefficients are below m, and there is room for the table and the turns.
+pub record IsReady (m : ℕ) (names : List ℕ) (node : Node) (table : List (ℕ × ℕ)) (count : ℕ) : Type 0 where
+  pub few_names : length names ≤ 24
+  pub increasing : IsStrictlyIncreasing names
+  pub few : (x : ℕ) → times_in (names ++ node.ends) x ≤ 2
+  pub codes : (i : ℕ) → i < length table → Spells (length names) (get_or table i (0, 0)).0
+  pub coefficients : (i : ℕ) → i < length table → (get_or table i (0, 0)).1 < m
+  pub weights : All (λ term. term.weight < m) node.terms
+  pub some : 0 < m
+  pub few_pairings : length table ≤ 262144
+  pub room : count < 2 ^ 124

@@ -1,0 +1,147 @@
+//! What a contraction keeps between two steps.
+
+ghost use Rattle.std.specs.Prelude.{◌≡◌, ◌<◌, ◌≤◌, ◌*◌, ◌^◌, ◌%◌, ◌==◌, ◌++◌, ◌∷◌, ℕ, List, [], length, slice_index, true, IfOk, IfErr, OnOk};
+ghost use Rattle.std.specs.List.{All, range_with_len};
+ghost use Rattle.std.specs.Map.{lookup};
+ghost use Rattle.std.specs.Option.{unwrap_or};
+ghost use Rattle.std.specs.Set.{is_member};
+ghost use Rattle.state_sums.specs.Networks.{WeightsBelow};
+ghost use Rattle.frontier_sweep.specs.Views.{IsView};
+ghost use Rattle.frontier_sweep.specs.Frontiers.{IsFrontier, IsLimitAfter};
+
+use crate::powers::LoopPowers;
+use crate::step::{NotGlued, glue_node};
+use crate::table::Table;
+use crate::view::View;
+use arc_pairing::{Network, Turns};
+use arrayvec::ArrayVec;
+use std::alloc::{AllocError, Global};
+use std::marker::Model;
+use std::mem;
+
+/// The places of the nodes that are left, increasing, the open names, increasing, and the table of the
+/// pairings of these; beside it the table of the next step, so that none is made anew.
+///
+/// Contracts see the first three.
+#[derive(Drop)]
+pub(crate) struct Frontier {
+    left: Vec<u32>,
+    names: ArrayVec<u32, 24>,
+    table: Table,
+    next: Table,
+}
+
+impl Model for Frontier {
+    ghost use Rattle.frontier_sweep.specs.Frontiers;
+
+    ghost Value = { Frontiers.Frontier };
+
+    ghost view = { λ frontier. record { left = frontier.left.items; names = frontier.names.items; table = frontier.table } };
+}
+
+/// An equal list, of at most 24 names.
+fn copied(names: &[u32]) -> ArrayVec<u32, 24>
+    requires { length names.now ≤ 24 }
+    ensures { result.items ≡ names.now }
+{
+    let mut copies = ArrayVec::new();
+    for name in names {
+        copies.push(*name);
+    }
+    copies
+}
+
+/// The places from 0 on, so many.
+fn places(alloc: Global, count: usize) -> Result<Vec<u32>, AllocError>
+    requires { count ≤ 65536 }
+    ensures { IfOk result (λ places. places.items ≡ range_with_len 0 count) }
+{
+    let mut places = Vec::with_capacity(alloc, count)?;
+    for place in 0..count {
+        places.push(place as u32)?;
+    }
+    Ok(places)
+}
+
+/// Where the place stands among the places, of which it is one.
+fn index_of(places: &[u32], place: u32) -> usize
+    requires { is_member ◌==◌ places.now place ≡ true }
+    ensures within { result < length places.now }
+    ensures place { slice_index places.now result ≡ place }
+{
+    for (index, other) in places.iter().enumerate() {
+        if *other == place {
+            return index;
+        }
+    }
+    places.len()
+}
+
+impl Frontier {
+    /// What is kept before the first step.
+    pub(crate) fn start(alloc: Global, network: &Network) -> Result<Frontier, AllocError>
+        ensures { IfOk result (λ frontier. frontier ≡ record { left = range_with_len 0 (length network.now.nodes); names = []; table = (0, 1) ∷ [] }) }
+    {
+        let left = places(alloc, network.nodes().len())?;
+        let table = Table::of_none(alloc)?;
+        Ok(Frontier {
+            left,
+            names: ArrayVec::new(),
+            table,
+            next: Table::new(alloc),
+        })
+    }
+
+    /// What a chooser sees.
+    pub(crate) fn view<'a>(&'a self, network: &'a Network) -> View<'a>
+        requires { IsView record { network = network.now; left = self.now.left; names = self.now.names } }
+        ensures { result ≡ record { network = network.now; left = self.now.left; names = self.now.names } }
+    {
+        View::new(network, &self.left, self.names.as_slice())
+    }
+
+    /// Takes the node at that place, which is left.
+    pub(crate) fn advance(
+        &mut self,
+        powers: &LoopPowers,
+        network: &Network,
+        place: u32,
+        turns: &mut Turns,
+    ) -> Result<(), NotGlued>
+        requires weights { WeightsBelow powers.now.modulus network.now.nodes }
+        requires some { 0 < powers.now.modulus }
+        requires frontier { (order : List ℕ) × IsFrontier powers.now.modulus powers.now.delta network.now order self.old turns.old }
+        requires left { is_member ◌==◌ self.old.left place ≡ true }
+        ensures after { (order : List ℕ) → IsFrontier powers.now.modulus powers.now.delta network.now order self.old turns.old
+            → OnOk result (IsFrontier powers.now.modulus powers.now.delta network.now (order ++ place ∷ []) self.new turns.new) }
+        ensures refused { (order : List ℕ) → IsFrontier powers.now.modulus powers.now.delta network.now order self.old turns.old
+            → IfErr result (IsLimitAfter network.now (order ++ place ∷ [])) }
+    {
+        let node = &network.nodes()[place as usize];
+        let seam = match glue_node(
+            powers,
+            self.names.as_slice(),
+            node,
+            &self.table,
+            &mut self.next,
+            turns,
+        ) {
+            Ok(seam) => seam,
+            Err(reason) => return Err(reason),
+        };
+        mem::swap(&mut self.table, &mut self.next);
+        self.names = copied(seam.names());
+        let index = index_of(&self.left, place);
+        self.left.remove(index);
+        Ok(())
+    }
+
+    /// The coefficient of the pairing of no points, times delta to the power of so many free loops.
+    pub(crate) fn value(&self, powers: &LoopPowers, free: u32) -> u64
+        requires some { 0 < powers.now.modulus }
+        requires below { All (λ entry. entry.1 < powers.now.modulus) self.now.table }
+        ensures { result ≡ unwrap_or (lookup (◌==◌ 0) self.now.table) 0 * powers.now.delta ^ free % powers.now.modulus }
+    {
+        powers.with_free_loops(self.table.coefficient(0), free)
+    }
+}

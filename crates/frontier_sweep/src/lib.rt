@@ -1,0 +1,18 @@
+//! The frontier sweep: state sums of large networks, node by node.
+#![tactic(auto)]
+
+mod chooser;
+mod contraction;
+mod fault;
+mod frontier;
+mod order;
+mod powers;
+mod step;
+mod table;
+mod view;
+
+pub use chooser::{Choose, Chooser, Kept};
+pub use contraction::contract;
+pub use fault::SweepFault;
+pub use order::{Order, given_next, greedy_next, listed_next};
+pub use view::View;

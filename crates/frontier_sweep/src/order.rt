@@ -1,0 +1,155 @@
+//! The three orders.
+
+ghost use Rattle.std.specs.Prelude.{◌≡◌, ◌≢◌, ◌<◌, ◌≤◌, ◌==◌, ◌++◌, ⊤, ℕ, [], length, true};
+ghost use Rattle.std.specs.List.{All, count_by};
+ghost use Rattle.std.specs.Set.{is_member};
+ghost use Rattle.state_sums.specs.Networks.{times_in};
+ghost use Rattle.arc_gluing.specs.Seams.{place_in};
+ghost use Rattle.frontier_sweep.specs.Next.{next_of, next_of-left};
+ghost use Rattle.frontier_laws.specs.Orders.{node_at, first_least, listed_of, greedy_of, given_of, open_with, rank_in};
+
+use crate::chooser::Choose;
+use crate::view::View;
+
+/// The first of the places at which the measure is least. There is a place.
+fn first_least<F: Fn(u32) -> u64>(places: &[u32], measure: F) -> u32
+    requires some { 0 < length places.now }
+    requires callable { All (λ place. F.pre measure place) places.now }
+    ensures least { (key : ℕ → ℕ) → All (λ place. (value : ℕ) → F.post measure place value → value ≡ key place) places.now → result ≡ first_least key places.now }
+    ensures among { is_member ◌==◌ places.now result ≡ true }
+{
+    let mut best = places[0];
+    let mut least = measure(best);
+    for place in places {
+        let value = measure(*place);
+        if value < least {
+            best = *place;
+            least = value;
+        }
+    }
+    best
+}
+
+/// How often the name stands.
+fn times(names: &[u32], name: u32) -> usize
+    ensures { result ≡ times_in names.now name }
+{
+    names.iter().filter(|other| name == **other).count()
+}
+
+/// Whether the name stands once in both lists together.
+fn stands_once(names: &[u32], ends: &[u32], name: u32) -> bool
+    ensures { result ≡ (times_in (names.now ++ ends.now) name == 1) }
+{
+    times(names, name) + times(ends, name) == 1
+}
+
+/// How many of these stand once in both lists together.
+fn single_among(among: &[u32], names: &[u32], ends: &[u32]) -> usize
+    ensures { result ≡ count_by (λ name. times_in (names.now ++ ends.now) name == 1) among.now }
+{
+    among
+        .iter()
+        .filter(|name| stands_once(names, ends, **name))
+        .count()
+}
+
+/// How many names are open when the node at that place is taken too.
+fn open_with(view: &View, place: u32) -> u64
+    requires { place < length view.now.network.nodes }
+    ensures { result ≡ open_with view.now place }
+{
+    let names = view.names();
+    let ends = view.network().nodes()[place as usize].ends();
+    (single_among(names, names, ends) + single_among(ends, names, ends)) as u64
+}
+
+/// The first place of the group in the list, or the length.
+fn place_in(groups: &[u32], group: u32) -> usize
+    ensures place { result ≡ place_in groups.now group }
+    ensures bound { result ≤ length groups.now }
+{
+    for (place, other) in groups.iter().enumerate() {
+        if group == *other {
+            return place;
+        }
+    }
+    groups.len()
+}
+
+/// Where a group stands in a list of groups; those that are not in it come behind, increasing.
+fn rank_in(groups: &[u32], group: u32) -> u64
+    ensures { result ≡ rank_in groups.now group }
+{
+    let place = place_in(groups, group);
+    if place < groups.len() {
+        place as u64
+    } else {
+        place as u64 + u64::from(group)
+    }
+}
+
+/// Where the group of the node at that place stands.
+fn rank_of(view: &View, order: &[u32], place: u32) -> u64
+    requires { place < length view.now.network.nodes }
+    ensures { result ≡ rank_in order.now (node_at view.now.network.nodes place).group }
+{
+    rank_in(order, view.network().nodes()[place as usize].group())
+}
+
+/// The order in which the nodes are listed: the least place left. A node is left. It takes no memory.
+pub fn listed_next(view: &View) -> u32
+    requires { view.now.left ≢ [] }
+    ensures next { result ≡ listed_of view.now }
+    ensures left { is_member ◌==◌ view.now.left result ≡ true }
+{
+    view.left()[0]
+}
+
+/// The greedy order: of the places left, the one after which the fewest names are open, and the least
+/// of these. A node is left. It takes no memory.
+pub fn greedy_next(view: &View) -> u32
+    requires { view.now.left ≢ [] }
+    ensures next { result ≡ greedy_of view.now }
+    ensures left { is_member ◌==◌ view.now.left result ≡ true }
+{
+    first_least(view.left(), |place| open_with(view, place))
+}
+
+/// The order that a list of groups gives: among the places left, those whose group stands first in the
+/// list, and the least of these; groups that are not in the list come behind it, increasing. A node is
+/// left. It takes no memory.
+pub fn given_next(view: &View, order: &[u32]) -> u32
+    requires { view.now.left ≢ [] }
+    ensures next { result ≡ given_of order.now view.now }
+    ensures left { is_member ◌==◌ view.now.left result ≡ true }
+{
+    first_least(view.left(), |place| rank_of(view, order, place))
+}
+
+/// One of the three orders, as what chooses.
+#[derive(Drop)]
+pub enum Order {
+    /// The nodes as they are listed.
+    Listed,
+    /// The nodes after which the fewest names are open.
+    Greedy,
+    /// The nodes by a list of groups.
+    Given(Vec<u32>),
+}
+
+impl Choose for Order {
+    ghost answers = { λ order view node. node ≡ next_of order view };
+
+    ghost chooses = { λ order. ⊤ };
+
+    ghost names_left = { λ order view node chooses left answer. next_of-left order view node left answer };
+
+    fn choose(&self, view: &View) -> u32 {
+        match self {
+            Order::Listed => listed_next(view),
+            Order::Greedy => greedy_next(view),
+            Order::Given(groups) => given_next(view, groups),
+        }
+    }
+}
