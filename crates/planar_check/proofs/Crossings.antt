@@ -1,7 +1,7 @@
 -- The crossings of a diagram have four places each, whose labels are the diagram's; and what is computed of
 -- a crossing's places is its sign and its components.
 --
--- Others cite: places_four, places_labels, signed_is, walks_are.
+-- Others cite: places_four, places_labels, signed_is, walks_are, labels_covered, leasts_at_places, first_place_below.
 use Rattle.std.proofs.Common.{◌≡◌, ℕ, ◌+◌, ◌*◌, ◌<◌, ◌==◌, ◌||◌, Bool, true, cond, leb, List, [], ◌∷◌, ◌++◌, length, map, get_or, slice_index, count_by, refl, sym, ap, ◌∙◌, arith, length-append, ⊎_elim}
 use Rattle.std.specs.List.{AllByRecursion, range_with_len}
 use Rattle.std.specs.Set.{is_member}
@@ -104,18 +104,17 @@ module _ (xs : List Item) (sizes : AllByRecursion HasItsSlots xs) (read walks le
       ∙ ap (λ (b : Bool). sign_for (same_truth (enters xs (4 * k)) b)) d))
 
 module _ (xs : List Item) (sizes : AllByRecursion HasItsSlots xs) where
-  pub labels_covered : (n : ℕ) → ((x : ℕ) → is_member ◌==◌ (labels item_labels xs) x ≡ true → x < n) → (read : List ℕ) → read ≡ labels_by_place (crossings_of xs) → All (λ x. x < n) read
-  labels_covered n covers read r =
+  pub labels_covered : (P : ℕ → Type 0) → ((x : ℕ) → is_member ◌==◌ (labels item_labels xs) x ≡ true → P x) → (read : List ℕ) → read ≡ labels_by_place (crossings_of xs) → All P read
+  labels_covered P covers read r =
       let ls = labels_by_place (crossings_of xs) in
-      let P : ℕ → Type 0 = λ x. x < n in
       All-same P read ls r (All-from_get_or P ls 0 (λ i l. covers (slice_index ls i) (places_labels xs sizes (slice_index ls i) (is_member-get_or ls i l))))
 
-  pub leasts_at_places : (entries : List ℕ) → ((x : ℕ) → is_member ◌==◌ (labels item_labels xs) x ≡ true → slice_index entries x ≡ least_of xs x) →
-      (read : List ℕ) → read ≡ labels_by_place (crossings_of xs) → map (λ x. slice_index entries x) read ≡ map (least_of xs) (labels_by_place (crossings_of xs))
-  leasts_at_places entries agree read r =
+  pub leasts_at_places : (least : ℕ → ℕ) → ((x : ℕ) → is_member ◌==◌ (labels item_labels xs) x ≡ true → least x ≡ least_of xs x) →
+      (read : List ℕ) → read ≡ labels_by_place (crossings_of xs) → map least read ≡ map (least_of xs) (labels_by_place (crossings_of xs))
+  leasts_at_places least agree read r =
       let ls = labels_by_place (crossings_of xs) in
-      ap (map (λ x. slice_index entries x)) r
-      ∙ map_agree_on (is_member ◌==◌ ls) (λ x. slice_index entries x) (least_of xs) ls (is_member-itself ls) (λ x m. agree x (places_labels xs sizes x m))
+      ap (map least) r
+      ∙ map_agree_on (is_member ◌==◌ ls) least (least_of xs) ls (is_member-itself ls) (λ x m. agree x (places_labels xs sizes x m))
 
 pub first_place_below : (ls : List ℕ) (q : ℕ) → 0 < length ls → first_place ls q < length ls
 first_place_below ls q l = first_below (λ p. slice_index ls p == q) (range_with_len 0 (length ls)) 0 (length ls) (range_all (λ k. k < length ls) (length ls) (λ k h. h)) l

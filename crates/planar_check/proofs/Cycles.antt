@@ -1,6 +1,6 @@
 -- A face, one place after the other, and the faces that start at one place more.
 --
--- Others cite: cycle_goes_on, cycle_ends, entry_at, listed_yes, listed_no, kept_yes, kept_no.
+-- Others cite: cycle_goes_on, cycle_ends, entry_at, listed_yes, listed_no.
 use Rattle.std.proofs.Common.{◌≡◌, ◌≢◌, ℕ, suc, ◌+◌, ◌-◌, ◌<◌, ◌==◌, Bool, true, false, cond, List, [], ◌∷◌, ◌++◌, map, get_or, slice_index, sym, ap, ◌∙◌, arith, eq-eqb, ne_eqb, append-nil}
 use Rattle.std.specs.List.{filter, range_with_len}
 use Rattle.std.proofs.lemmas.List.{map-append}
@@ -36,15 +36,3 @@ module _ {Y : Type 0} (p : ℕ → Bool) (f : ℕ → Y) (n : ℕ) (before after
 
   pub listed_no : p n ≡ false → after ≡ before → after ≡ map f (filter p (range_with_len 0 (n + 1)))
   listed_no t e = e ∙ (is ∙ sym (listed false t ∙ append-nil (map f (filter p (range_with_len 0 n)))))
-
-module _ (p : ℕ → Bool) (n : ℕ) (before after : List ℕ) (is : before ≡ filter p (range_with_len 0 n)) where
-  kept : (b : Bool) → p n ≡ b → filter p (range_with_len 0 (n + 1)) ≡ filter p (range_with_len 0 n) ++ cond b (n ∷ []) []
-  kept b t =
-      ap (filter p) (range_next n)
-      ∙ (filter-append p (range_with_len 0 n) (n ∷ []) ∙ ap (λ (c : Bool). filter p (range_with_len 0 n) ++ cond c (n ∷ []) []) t)
-
-  pub kept_yes : p n ≡ true → after ≡ before ++ n ∷ [] → after ≡ filter p (range_with_len 0 (n + 1))
-  kept_yes t e = e ∙ (ap (λ (ns : List ℕ). ns ++ n ∷ []) is ∙ sym (kept true t))
-
-  pub kept_no : p n ≡ false → after ≡ before → after ≡ filter p (range_with_len 0 (n + 1))
-  kept_no t e = e ∙ (is ∙ sym (kept false t ∙ append-nil (filter p (range_with_len 0 n))))

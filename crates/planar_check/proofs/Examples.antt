@@ -1,5 +1,5 @@
 -- The definitions, computed at worked values.
-use Rattle.std.proofs.Common.{◌≡◌, ℕ, List, [], ◌∷◌, map, Some, None, refl, pos, negsuc}
+use Rattle.std.proofs.Common.{◌≡◌, ℕ, ◌^◌, List, [], ◌∷◌, map, Some, None, refl, pos, negsuc}
 use Rattle.std.specs.List.{range_with_len}
 use Rattle.planar_check.specs.declared.fault.PlanarFault.TheVariants.{NotPlanar}
 use Rattle.pd_reader.specs.declared.item.Item.{Item}
@@ -10,6 +10,7 @@ use Rattle.planar_check.specs.Places.{item_slots, net_item_slots, labels_by_plac
 use Rattle.graph_parts.specs.LeastNames.{least_name}
 use Rattle.planar_check.specs.Components.{least_of, least_labels, component_of}
 use Rattle.planar_check.specs.Signs.{walk_of, signed_crossings, writhe, halved, linking}
+use Rattle.planar_check.specs.Framings.{first_large, linking_entry}
 use Rattle.planar_check.specs.Faces.{faces}
 use Rattle.planar_check.specs.Planar.{next_place, face_count, piece_count, edge_count, wanted_faces, planar_refusal}
 
@@ -97,3 +98,13 @@ hopf_linking = refl
 chain_linking : linking chain 1 2 ∷ linking chain 3 1 ∷ linking chain 2 3 ∷ [] ≡ pos 1 ∷ pos 1 ∷ pos 0 ∷ []
 unfolding chain signed_crossings walk_of other_place least_labels least_of least_name part
 chain_linking = refl
+
+-- the linking matrix of the chain with the framings 0,0,0, row by row
+chain_matrix : map (λ i. map (linking_entry record { items = chain; framings = pos 0 ∷ pos 0 ∷ pos 0 ∷ [] } i) (1 ∷ 2 ∷ 3 ∷ [])) (1 ∷ 2 ∷ 3 ∷ [])
+    ≡ (pos 0 ∷ pos 1 ∷ pos 1 ∷ []) ∷ (pos 1 ∷ pos 0 ∷ pos 0 ∷ []) ∷ (pos 1 ∷ pos 0 ∷ pos 0 ∷ []) ∷ []
+unfolding chain signed_crossings walk_of other_place least_labels least_of least_name part
+chain_matrix = refl
+
+-- a framing of 2^60 is not too large, one of -2^60 - 1 is
+third_large : first_large (pos (2 ^ 60) ∷ negsuc (1152921504606846975) ∷ negsuc (2 ^ 60) ∷ pos (2 ^ 62) ∷ []) ≡ Some 3
+third_large = refl

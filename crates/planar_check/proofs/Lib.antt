@@ -1,8 +1,17 @@
 mod Examples
 mod Pushes
 mod Others
+mod OtherPlaces
+mod DistinctLabels
+mod Ranks
+mod ComponentLists
 mod Counts
 mod PlaceLists
 mod Cycles
 mod Strands
 mod Crossings
+mod FewComponents
+mod FramingLemmas
+mod CrossingComponents
+mod SignSums
+mod LinkingEntries

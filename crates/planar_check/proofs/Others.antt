@@ -1,28 +1,12 @@
--- The search for the other place of a label, one place after the other; and what comes behind a list
--- that is made from a function of the index.
+-- Whether a place is across the edge from another; and what comes behind a list that is made by a function of
+-- the index, or of the elements of another list.
 --
--- Others cite: passes, passes_not, passes_none, across, across_same, across_not, mapped_push.
-use Rattle.std.proofs.Common.{◌≡◌, ◌≢◌, ℕ, suc, ◌+◌, ◌-◌, ◌<◌, ◌≤◌, cond, true, false, Bool, List, [], ◌∷◌, ◌++◌, map, slice_index, refl, sym, ap, ◌∙◌, arith, eq-eqb, ne_eqb}
+-- Others cite: across, across_same, across_not, mapped_push, mapped_more.
+use Rattle.std.proofs.Common.{◌≡◌, ◌≢◌, ℕ, ◌+◌, ◌<◌, true, false, List, [], ◌∷◌, ◌++◌, map, length, take, slice_index, refl, sym, ap, ◌∙◌, arith, eq-eqb, ne_eqb}
 use Rattle.std.specs.List.{range_with_len}
+use Rattle.std.proofs.lemmas.List.{take_more, map-append}
 use Rattle.std.proofs.lemmas.List.FromFn.{map-range_with_len_more}
-use Rattle.planar_check.specs.Places.{first_passing, is_across}
-
-module _ (test : ℕ → Bool) (none : ℕ) where
-  pub passes : (i n : ℕ) → i < n → test i ≡ true → first_passing test (range_with_len i (n - i)) none ≡ i
-  passes i n l t =
-      let more : n - i ≡ suc (n - (i + 1)) = omega arith in
-      ap (λ k. first_passing test (range_with_len i k) none) more ∙ ap (λ (b : Bool). cond b i (first_passing test (range_with_len (i + 1) (n - (i + 1))) none)) t
-
-  pub passes_not : (i n : ℕ) → i < n → test i ≡ false →
-      first_passing test (range_with_len i (n - i)) none ≡ first_passing test (range_with_len (i + 1) (n - (i + 1))) none
-  passes_not i n l t =
-      let more : n - i ≡ suc (n - (i + 1)) = omega arith in
-      ap (λ k. first_passing test (range_with_len i k) none) more ∙ ap (λ (b : Bool). cond b i (first_passing test (range_with_len (i + 1) (n - (i + 1))) none)) t
-
-  pub passes_none : (i n : ℕ) → n ≤ i → first_passing test (range_with_len i (n - i)) none ≡ none
-  passes_none i n l =
-      let over : n - i ≡ 0 = omega arith in
-      ap (λ k. first_passing test (range_with_len i k) none) over
+use Rattle.planar_check.specs.Places.{is_across}
 
 module _ (labels : List ℕ) (p q : ℕ) where
   pub across : q ≢ p → slice_index labels q ≡ slice_index labels p → is_across labels p q ≡ true
@@ -38,3 +22,7 @@ pub mapped_push : {X : Type 0} (f : ℕ → X) (n : ℕ) (before after : List X)
 mapped_push {X} f n before after b a =
     let same : 0 + n ≡ n = omega arith in
     a ∙ (ap (λ (xs : List X). xs ++ f n ∷ []) b ∙ sym (map-range_with_len_more f 0 n n same))
+
+pub mapped_more : {X : Type 0} (f : ℕ → X) (xs : List ℕ) (i : ℕ) (before after : List X) → i < length xs → before ≡ map f (take i xs) → after ≡ before ++ f (slice_index xs i) ∷ [] → after ≡ map f (take (i + 1) xs)
+mapped_more {X} f xs i before after l b a =
+    a ∙ (ap (λ (ys : List X). ys ++ f (slice_index xs i) ∷ []) b ∙ sym (ap (map f) (take_more xs i 0 l) ∙ map-append f (take i xs) (slice_index xs i ∷ [])))

@@ -1,30 +1,31 @@
 -- The lists of the places of some items have one length and are in range, so that they can be looked up.
 --
--- Others cite: places_are, ArePlaces and its lemmas turns_long, owners_long, turns_in_range, owners_in_range,
+-- Others cite: lists_are, AreLists and its lemmas turns_long, owners_long, turns_in_range, owners_in_range,
 -- others_in_range, others_long.
 use Rattle.std.proofs.Common.{◌≡◌, ℕ, ◌+◌, ◌<◌, List, length, sym, ap, ◌∙◌, arith, All}
 use Rattle.std.proofs.lemmas.List.Elements.{All-same, All-weaker}
 use Rattle.std.proofs.lemmas.List.FromFn.{length-map-range_with_len}
-use Rattle.planar_check.specs.Places.{labels_by_place, turned_places, owners, other_place, other_places}
+use Rattle.planar_check.specs.declared.placed.Places.{Places}
+use Rattle.planar_check.specs.Places.{ArePlaces, labels_by_place, turned_places, owners, other_place, other_places}
 use Rattle.planar_check.proofs.Pushes.{length-turns, length-owners}
 use Rattle.planar_check.proofs.Counts.{turns_below, owners_below, others_below}
 
 -- the lists are those of the places of the items
-pub record ArePlaces (cs : List (List ℕ)) (turns numbers others : List ℕ) : Type 0 where
+pub record AreLists (cs : List (List ℕ)) (turns numbers others : List ℕ) : Type 0 where
   pub turns_are : turns ≡ turned_places 0 cs
   pub owners_are : numbers ≡ owners 0 cs
   pub others_are : others ≡ other_places (labels_by_place cs)
 
--- what the lists say, as they were passed
-pub places_are : (cs : List (List ℕ)) (labels turns numbers others read : List ℕ) → read ≡ labels → labels ≡ labels_by_place cs → turns ≡ turned_places 0 cs → numbers ≡ owners 0 cs
-    → others ≡ other_places read → ArePlaces cs turns numbers others
-places_are cs labels turns numbers others read r l t n o = record {
-  turns_are = t;
-  owners_are = n;
-  others_are = o ∙ ap other_places (r ∙ l);
+-- the lists of the places, as they are read
+pub lists_are : (cs : List (List ℕ)) (places : Places) (turns numbers others : List ℕ) → ArePlaces cs places → turns ≡ places.turns.items → numbers ≡ places.owners.items → others ≡ places.others.items →
+    AreLists cs turns numbers others
+lists_are cs places turns numbers others are t n o = record {
+  turns_are = t ∙ are.turns_are;
+  owners_are = n ∙ are.owners_are;
+  others_are = o ∙ are.others_are;
 }
 
-module _ (cs : List (List ℕ)) (turns numbers others : List ℕ) (are : ArePlaces cs turns numbers others) where
+module _ (cs : List (List ℕ)) (turns numbers others : List ℕ) (are : AreLists cs turns numbers others) where
   pub others_long : length others ≡ length (labels_by_place cs)
   others_long = ap length are.others_are ∙ length-map-range_with_len (other_place (labels_by_place cs)) 0 (length (labels_by_place cs))
 

@@ -6,6 +6,8 @@
 --     strand_edges items         the labels that a strand of a crossing joins
 --     least_of items label       the least label of the label's component
 --     is_least_of items label    the label is one of the diagram, and the least of its component
+--     distinct labels            the different labels of a list, in increasing order
+--     rank names label           the index of a label in a list
 --     least_labels items         the least label of each component, in increasing order
 --     number_of items label      how many components have a least label that is not above this one's:
 --                                the number of the label's component
@@ -13,7 +15,7 @@
 --
 -- The Hopf link X[2,4,3,1] X[4,2,1,3] has the components 1,4 and 2,3, with the least labels 1 and 2.
 use Rattle.std.specs.Prelude.{ℕ, ◌+◌, ◌==◌, ◌≡◌, ◌<◌, ◌^◌, ◌&&◌, Bool, nat_le, max, map, if◌then◌else◌, List, [], ◌∷◌, ◌++◌, length, slice_index, count_by, Option, Some, None}
-use Rattle.std.specs.List.{filter, range_with_len}
+use Rattle.std.specs.List.{filter, position_or_len, range_with_len}
 use Rattle.std.specs.Set.{is_member}
 use Rattle.graph_parts.specs.LeastNames.{least_name}
 use Rattle.pd_reader.specs.declared.item.Item.{Item}
@@ -43,6 +45,14 @@ abbrev pub greatest : List ℕ → ℕ
 greatest [] = 0
 greatest (n ∷ ns) = max n (greatest ns)
 
+-- the different labels of a list, in increasing order
+unfoldable pub distinct : List ℕ → List ℕ
+distinct labels = filter (is_member ◌==◌ labels) (range_with_len 0 (greatest labels + 1))
+
+-- the index at which a name stands in a list of names, or the length of the list
+abbrev pub rank : List ℕ → ℕ → ℕ
+rank names label = position_or_len (λ name. name == label) names
+
 -- the least label of each component, in increasing order
 unfoldable pub least_labels : List Item → List ℕ
 least_labels items = filter (is_least_of items) (range_with_len 0 (greatest (labels item_labels items) + 1))
@@ -55,9 +65,9 @@ number_of items label = count_by (λ least. nat_le least (least_of items label))
 abbrev pub component_of : List Item → ℕ → Option ℕ
 component_of items label = if is_member ◌==◌ (labels item_labels items) label then Some (number_of items label) else None
 
--- the labels of a diagram's items, the least label of each one's component, and those of all components
-pub record AreComponents (items : List Item) (labels_found leasts firsts : List ℕ) : Type 0 where
-  pub labels_are : labels_found ≡ labels item_labels items
-  pub leasts_are : leasts ≡ map (least_of items) (labels item_labels items)
+-- the different labels of a diagram's items, the least label of each one's component, and those of all components
+pub record AreComponents (items : List Item) (names leasts firsts : List ℕ) : Type 0 where
+  pub names_are : names ≡ distinct (labels item_labels items)
+  pub leasts_are : leasts ≡ map (least_of items) names
   pub firsts_are : firsts ≡ least_labels items
   pub few : length firsts < 2 ^ 32

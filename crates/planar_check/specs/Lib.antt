@@ -3,3 +3,4 @@ pub mod Planar
 pub mod Faces
 pub mod Components
 pub mod Signs
+pub mod Framings

@@ -13,8 +13,9 @@
 --
 -- For X[1,4,2,5] X[3,6,4,1] X[5,2,6,3], the left-handed trefoil: the label 4 stands at the places 1
 -- and 6, and counterclockwise from the place 6 comes the place 7, from 7 the place 4.
-use Rattle.std.specs.Prelude.{ℕ, Bool, ◌+◌, ◌%◌, ◌==◌, ◌&&◌, not, nat_lt, if◌then◌else◌, List, [], ◌∷◌, ◌++◌, length, map, slice_index}
+use Rattle.std.specs.Prelude.{◌≡◌, ℕ, Bool, ◌+◌, ◌%◌, ◌==◌, ◌&&◌, not, nat_lt, if◌then◌else◌, List, [], ◌∷◌, ◌++◌, length, map, slice_index}
 use Rattle.std.specs.List.{filter, range_with_len}
+use Rattle.planar_check.specs.declared.placed.Places.{Places}
 use Rattle.pd_reader.specs.declared.item.Item.{Item}
 use Rattle.pd_reader.specs.declared.item.Item.TheVariants as items
 use Rattle.pd_reader.specs.declared.item.NetItem.{NetItem}
@@ -71,3 +72,11 @@ other_place labels p = first_passing (is_across labels p) (range_with_len 0 (len
 -- for each place the other place of its label
 abbrev pub other_places : List ℕ → List ℕ
 other_places labels = map (other_place labels) (range_with_len 0 (length labels))
+
+-- what is known of each place of the items with these slots
+pub record ArePlaces (crossings : List (List ℕ)) (places : Places) : Type 0 where
+  pub labels_are : places.labels.items ≡ labels_by_place crossings
+  pub turns_are : places.turns.items ≡ turned_places 0 crossings
+  pub owners_are : places.owners.items ≡ owners 0 crossings
+  pub others_are : places.others.items ≡ other_places (labels_by_place crossings)
+  pub count_is : places.crossings ≡ length crossings

@@ -1,13 +1,18 @@
 //! The components of a diagram: labels, the strands that join them, and the least label of each class.
 
-ghost use Rattle.std.specs.Prelude.{MatchOption, nat_le, count_by, ◌≡◌, ◌==◌, ◌&&◌, ◌++◌, ◌+◌, ◌*◌, ◌^◌, ◌<◌, ◌≤◌, ℕ, false, length, map, slice_index, slice_index_or, vec_len, IfOk, OnOk, EachIndex};
-ghost use Rattle.std.specs.List.{All, AllByRecursion, filter, range_with_len};
-ghost use Rattle.std.specs.Set.{is_member};
+ghost use Rattle.std.specs.Prelude.{MatchOption, nat_le, count_by, ◌≡◌, ◌==◌, ◌++◌, ◌^◌, ◌<◌, ◌≤◌, ℕ, length, map, slice_index, vec_len, IfOk, OnOk};
+ghost use Rattle.std.specs.List.{All, filter};
+ghost use Rattle.std.specs.List.Sorted.{IsStrictlySortedBy};
+ghost use Rattle.std.specs.Ordering.{nat_cmp};
+ghost use Rattle.graph_parts.specs.Renaming.{renamed};
 ghost use Rattle.pd_reader.specs.Items.{item_labels};
 ghost use Rattle.pd_reader.specs.Diagrams.{labels, IsDiagram};
-ghost use Rattle.planar_check.specs.Signs.{AreCrossings};
-ghost use Rattle.planar_check.specs.Components.{item_strands, strand_edges, greatest, AreComponents};
+ghost use Rattle.planar_check.specs.Signs.{crossings_of, AreCrossings};
+ghost use Rattle.planar_check.specs.Places.{ArePlaces};
+ghost use Rattle.planar_check.specs.Components.{item_strands, strand_edges, distinct, rank, least_of, AreComponents};
 
+use crate::distinct::{distinct, rank};
+use crate::placed::Places;
 use crate::sign::{Signed, signed_crossings};
 use part_labels::least_names;
 use pd_reader::Item;
@@ -34,91 +39,83 @@ fn labels(alloc: Global, items: &[Item]) -> Result<Vec<u32>, AllocError>
     Ok(found)
 }
 
-/// Puts the labels that the item's strands join behind those of the items before it.
-fn push_strands(edges: &mut Vec<(usize, usize)>, item: &Item) -> Result<(), AllocError>
-    ensures { OnOk result (edges.new.items ≡ edges.old.items ++ item_strands item.now) }
+/// Puts what the item's strands join behind that of the items before it, each label as its rank.
+fn push_strands(
+    edges: &mut Vec<(usize, usize)>,
+    item: &Item,
+    names: &[u32],
+) -> Result<(), AllocError>
+    requires { IsStrictlySortedBy nat_cmp names.now }
+    ensures { OnOk result (edges.new.items ≡ edges.old.items ++ map (renamed (rank names.now)) (item_strands item.now)) }
 {
     match item {
-        Item::X([a, b, c, d]) => {
-            edges.extend_from_slice(&[(*a as usize, *c as usize), (*b as usize, *d as usize)])
-        }
+        Item::X([a, b, c, d]) => edges.extend_from_slice(&[
+            (rank(names, *a), rank(names, *c)),
+            (rank(names, *b), rank(names, *d)),
+        ]),
         Item::Loop(_) => Ok(()),
     }
 }
 
-/// The labels that a strand joins, item by item.
-fn strand_edges(alloc: Global, items: &[Item]) -> Result<Vec<(usize, usize)>, AllocError>
-    ensures { IfOk result (λ edges. edges.items ≡ strand_edges items.now) }
+/// What a strand joins, item by item, each label as its rank.
+fn strand_edges(
+    alloc: Global,
+    items: &[Item],
+    names: &[u32],
+) -> Result<Vec<(usize, usize)>, AllocError>
+    requires { IsStrictlySortedBy nat_cmp names.now }
+    ensures { IfOk result (λ edges. edges.items ≡ map (renamed (rank names.now)) (strand_edges items.now)) }
 {
     let mut edges = Vec::new(alloc);
     for item in items {
-        push_strands(&mut edges, item)?;
+        push_strands(&mut edges, item, names)?;
     }
     Ok(edges)
 }
 
-/// The greatest of the labels, or 0.
-fn greatest(labels: &[u32]) -> u32
-    ensures { result ≡ greatest labels.now }
+/// The names that have these ranks.
+fn named(alloc: Global, names: &[u32], ranks: &[usize]) -> Result<Vec<u32>, AllocError>
+    requires { All (λ rank. rank < length names.now) ranks.now }
+    ensures { IfOk result (λ found. found.items ≡ map (slice_index names.now) ranks.now) }
 {
-    let mut most: u32 = 0;
-    for label in labels {
-        most = most.max(*label);
+    let mut found = Vec::new(alloc);
+    for rank in ranks {
+        found.push(names[*rank])?;
     }
-    most
+    Ok(found)
 }
 
-/// Of the numbers below `names`, which are labels.
-fn stands(alloc: Global, labels: &[u32], names: usize) -> Result<Vec<bool>, AllocError>
-    requires { All (λ label. label < names) labels.now }
-    ensures length { IfOk result (λ stands. length stands.items ≡ names) }
-    ensures member { IfOk result (λ stands. (n : ℕ) → n < names → slice_index_or stands.items n false ≡ is_member ◌==◌ labels.now n) }
+/// For each of the different labels the least label of its component.
+fn leasts_of(alloc: Global, items: &[Item], names: &[u32]) -> Result<Vec<u32>, AllocError>
+    requires diagram { IsDiagram items.now }
+    requires names { names.now ≡ distinct (labels item_labels items.now) }
+    ensures { IfOk result (λ leasts. leasts.items ≡ map (least_of items.now) names.now) }
 {
-    let mut stands = vec![in alloc; false; names]?;
-    for label in labels {
-        stands[*label as usize] = true;
-    }
-    Ok(stands)
+    let edges = strand_edges(alloc, items, names)?;
+    let ranks = least_names(alloc, names.len(), &edges)?;
+    let leasts = named(alloc, names, &ranks)?;
+    Ok(leasts)
 }
 
-/// The names that stand and are their own entries, in increasing order.
-fn own_names(alloc: Global, entries: &[usize], stands: &[bool]) -> Result<Vec<u32>, AllocError>
-    requires same_length { length stands.now ≡ length entries.now }
-    requires few { length entries.now ≤ 2 ^ 32 }
-    ensures own { IfOk result (λ own. own.items ≡ filter (λ n. slice_index_or stands.now n false && slice_index entries.now n == n) (range_with_len 0 (length entries.now))) }
-    ensures few { IfOk result (λ own. vec_len own ≤ length entries.now) }
+/// The names that are their own least ones.
+fn own_names(alloc: Global, names: &[u32], leasts: &[u32]) -> Result<Vec<u32>, AllocError>
+    requires same_length { length leasts.now ≡ length names.now }
+    ensures { (least : ℕ → ℕ) → leasts.now ≡ map least names.now → IfOk result (λ own. own.items ≡ filter (λ name. least name == name) names.now) }
 {
     let mut own = Vec::new(alloc);
-    for name in 0..entries.len() {
-        if stands[name] && entries[name] == name {
-            own.push(name as u32)?;
+    for (rank, name) in names.iter().enumerate() {
+        if leasts[rank] == *name {
+            own.push(*name)?;
         }
     }
     Ok(own)
 }
 
-/// For each of the labels its entry.
-pub(crate) fn entries_of(
-    alloc: Global,
-    labels: &[u32],
-    entries: &[usize],
-) -> Result<Vec<u32>, AllocError>
-    requires labels_in_range { All (λ label. label < length entries.now) labels.now }
-    requires few { All (λ entry. entry < 2 ^ 32) entries.now }
-    ensures { IfOk result (λ found. found.items ≡ map (λ label. slice_index entries.now label) labels.now) }
-{
-    let mut found = Vec::new(alloc);
-    for label in labels {
-        found.push(entries[*label as usize] as u32)?;
-    }
-    Ok(found)
-}
-
 /// The components of a diagram, as the least label of each and of each label's.
 #[derive(Drop, Debug)]
 pub(crate) struct Components {
-    /// The labels of the items, one item after the other.
-    pub labels: Vec<u32>,
+    /// The different labels, in increasing order.
+    pub names: Vec<u32>,
     /// For each of these the least label of its component.
     pub leasts: Vec<u32>,
     /// The least label of each component, in increasing order.
@@ -128,22 +125,21 @@ pub(crate) struct Components {
 }
 
 impl Components {
-    /// The components of these items.
-    pub fn of(alloc: Global, items: &[Item]) -> Result<Components, AllocError>
-        requires { IsDiagram items.now }
-        ensures components { IfOk result (λ found. AreComponents items.now found.labels.items found.leasts.items found.firsts.items) }
+    /// The components of these items, whose places are given.
+    pub fn of(alloc: Global, items: &[Item], places: &Places) -> Result<Components, AllocError>
+        requires diagram { IsDiagram items.now }
+        requires places { ArePlaces (crossings_of items.now) places.now }
+        requires few { places.now.crossings ≤ 256 }
+        ensures components { IfOk result (λ found. AreComponents items.now found.names.items found.leasts.items found.firsts.items) }
         ensures crossings { IfOk result (λ found. AreCrossings items.now found.crossings.items) }
     {
         let labels = labels(alloc, items)?;
-        let edges = strand_edges(alloc, items)?;
-        let names = greatest(&labels) as usize + 1;
-        let entries = least_names(alloc, names, &edges)?;
-        let stands = stands(alloc, &labels, names)?;
-        let firsts = own_names(alloc, &entries, &stands)?;
-        let leasts = entries_of(alloc, &labels, &entries)?;
-        let crossings = signed_crossings(alloc, items, &entries, &firsts)?;
+        let names = distinct(alloc, &labels)?;
+        let leasts = leasts_of(alloc, items, &names)?;
+        let firsts = own_names(alloc, &names, &leasts)?;
+        let crossings = signed_crossings(alloc, items, places, &names, &leasts, &firsts)?;
         Ok(Components {
-            labels,
+            names,
             leasts,
             firsts,
             crossings,
@@ -151,36 +147,30 @@ impl Components {
     }
 }
 
-/// How many of the numbers are at most this one.
+/// How many of the increasing numbers are at most this one.
 pub(crate) fn count_at_most(numbers: &[u32], most: u32) -> u32
-    requires { length numbers.now < 2 ^ 32 }
+    requires few { length numbers.now < 2 ^ 32 }
+    requires sorted { IsStrictlySortedBy nat_cmp numbers.now }
     ensures { result ≡ count_by (λ number. nat_le number most) numbers.now }
 {
-    let mut count = 0;
-    for number in numbers {
-        if *number <= most {
-            count += 1;
-        }
+    match numbers.binary_search(&most) {
+        Ok(last) => last as u32 + 1,
+        Err(next) => next as u32,
     }
-    count
 }
 
-/// The number of the label's component, or nothing where the label does not stand in the list.
-pub(crate) fn component_of(
-    labels: &[u32],
-    leasts: &[u32],
-    firsts: &[u32],
-    label: u32,
-) -> Option<u32>
-    requires same_length { length leasts.now ≡ length labels.now }
+/// The number of the label's component, or nothing where the label is none of the names.
+pub(crate) fn component_of(names: &[u32], leasts: &[u32], firsts: &[u32], label: u32) -> Option<u32>
+    requires sorted { IsStrictlySortedBy nat_cmp names.now }
+    requires sorted_firsts { IsStrictlySortedBy nat_cmp firsts.now }
     requires few { length firsts.now < 2 ^ 32 }
-    ensures { MatchOption result (is_member ◌==◌ labels.now label ≡ false) (λ number. (place : ℕ) × (place < length labels.now) × (slice_index labels.now place ≡ label)
-        × (number ≡ count_by (λ first. nat_le first (slice_index leasts.now place)) firsts.now)) }
+    ensures { MatchOption result (length leasts.now ≤ rank names.now label) (λ number. (rank names.now label < length leasts.now)
+        × (number ≡ count_by (λ first. nat_le first (slice_index leasts.now (rank names.now label))) firsts.now)) }
 {
-    for (place, other) in labels.iter().enumerate() {
-        if *other == label {
-            return Some(count_at_most(firsts, leasts[place]));
-        }
+    let rank = rank(names, label);
+    if rank < leasts.len() {
+        Some(count_at_most(firsts, leasts[rank]))
+    } else {
+        None
     }
-    None
 }

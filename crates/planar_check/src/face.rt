@@ -7,7 +7,6 @@ ghost use Rattle.planar_check.specs.Planar.{next_place};
 ghost use Rattle.planar_check.specs.Faces.{cycle_from, faces, faces_by};
 
 use crate::count::face_edges;
-use crate::other::other_places;
 use crate::placed::Places;
 use part_labels::least_names;
 use pd_reader::Diagram;
@@ -96,6 +95,5 @@ pub fn faces(alloc: Global, diagram: &Diagram) -> Result<Vec<Face>, AllocError>
     ensures { IfOk result (λ found. found.items ≡ faces (crossings item_slots diagram.now)) }
 {
     let places = Places::of(alloc, diagram.items())?;
-    let others = other_places(alloc, &places.labels)?;
-    faces_by(alloc, &places.turns, &others)
+    faces_by(alloc, &places.turns, &places.others)
 }

@@ -1,11 +1,14 @@
 //! Faces, connected pieces and planarity of diagrams and nets, by Euler's formula; the components of
-//! planar diagrams, with their writhes and linking numbers.
+//! planar diagrams, with their writhes and linking numbers; framings and the linking matrix.
 #![tactic(auto)]
 
 mod component;
 mod count;
+mod distinct;
 mod face;
 mod fault;
+mod framed;
+mod linking;
 mod other;
 mod placed;
 mod planar;
@@ -14,6 +17,8 @@ mod sign;
 mod tests;
 
 pub use face::{Face, faces};
-pub use fault::PlanarFault;
+pub use fault::{FramedFault, PlanarFault};
+pub use framed::Framed;
+pub use linking::linking_matrix;
 pub use planar::{Planar, PlanarNet, check, check_net};
 pub use sign::Sign;

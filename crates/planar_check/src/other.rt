@@ -1,30 +1,60 @@
 //! Across each edge: the other place at which a label stands.
 
-ghost use Rattle.std.specs.Prelude.{◌≡◌, ◌<◌, length, IfOk};
-ghost use Rattle.planar_check.specs.Places.{other_place, other_places};
+ghost use Rattle.std.specs.Prelude.{◌≡◌, ◌==◌, ◌<◌, Some, length, slice_index, slice_set, unwrap_or, if◌then◌else◌, ℕ, IfOk};
+ghost use Rattle.std.specs.BTreeMap.{get};
+ghost use Rattle.std.specs.Ordering.{nat_cmp};
+ghost use Rattle.planar_check.specs.Places.{other_places};
+ghost use Rattle.planar_check.specs.Signs.{first_place};
 
 use std::alloc::{AllocError, Global};
+use std::collections::BTreeMap;
 
-/// The other place at which the label of this place stands, or the place itself.
-fn other_place(labels: &[u32], place: usize) -> usize
-    requires { place < length labels.now }
-    ensures { result ≡ other_place labels.now place }
+/// The place at which the label was first met, which is this one where it was not met before.
+fn first_met(
+    firsts: &mut BTreeMap<u32, usize>,
+    label: u32,
+    place: usize,
+) -> Result<usize, AllocError>
+    ensures first { IfOk result (λ first. first ≡ unwrap_or (get nat_cmp firsts.old label) place) }
+    ensures met { IfOk result (λ first. (other : ℕ) → get nat_cmp firsts.new other ≡ (if label == other then Some first else get nat_cmp firsts.old other)) }
 {
-    for (other, label) in labels.iter().enumerate() {
-        if other != place && *label == labels[place] {
-            return other;
-        }
-    }
-    place
+    Ok(*firsts.entry(label)?.or_insert(place))
 }
 
-/// For each place the other place of its label.
+/// The first place of each label.
+pub(crate) fn first_places(
+    alloc: Global,
+    labels: &[u32],
+) -> Result<BTreeMap<u32, usize>, AllocError>
+    ensures { IfOk result (λ firsts. (label : ℕ) → unwrap_or (get nat_cmp firsts label) 0 ≡ first_place labels.now label) }
+{
+    let mut firsts = BTreeMap::new(alloc);
+    for (place, label) in labels.iter().enumerate() {
+        first_met(&mut firsts, *label, place)?;
+    }
+    Ok(firsts)
+}
+
+/// Gives the first place of a label this one as its other place, where it had none.
+fn give_other(others: &mut [usize], first: usize, place: usize)
+    requires { first < length others.old }
+    ensures { others.new ≡ (if slice_index others.old first == first then slice_set others.old first place else others.old) }
+{
+    if others[first] == first {
+        others[first] = place;
+    }
+}
+
+/// For each place the other place of its label: the first other one, or itself where there is none.
 pub(crate) fn other_places(alloc: Global, labels: &[u32]) -> Result<Vec<usize>, AllocError>
     ensures { IfOk result (λ others. others.items ≡ other_places labels.now) }
 {
+    let mut firsts = BTreeMap::new(alloc);
     let mut others = Vec::new(alloc);
-    for place in 0..labels.len() {
-        others.push(other_place(labels, place))?;
+    for (place, label) in labels.iter().enumerate() {
+        let first = first_met(&mut firsts, *label, place)?;
+        others.push(first)?;
+        give_other(&mut others, first, place);
     }
     Ok(others)
 }

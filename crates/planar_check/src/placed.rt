@@ -2,8 +2,9 @@
 
 ghost use Rattle.std.specs.Prelude.{◌≡◌, ◌+◌, ◌*◌, ◌^◌, ◌<◌, ◌≤◌, ◌++◌, List, ℕ, length, map, IfOk, OnOk, vec_len};
 ghost use Rattle.std.specs.List.{range_with_len};
-ghost use Rattle.planar_check.specs.Places.{item_slots, net_item_slots, crossings, labels_by_place, turned_places, owners, turned};
+ghost use Rattle.planar_check.specs.Places.{item_slots, net_item_slots, crossings, turned, ArePlaces};
 
+use crate::other::other_places;
 use pd_reader::{Item, NetItem};
 use std::alloc::{AllocError, Global};
 
@@ -49,6 +50,8 @@ pub(crate) struct Places {
     pub turns: Vec<usize>,
     /// The number of the item, among those with slots.
     pub owners: Vec<usize>,
+    /// The other place at which the label of the place stands.
+    pub others: Vec<usize>,
     /// How many items have slots.
     pub crossings: usize,
 }
@@ -80,10 +83,7 @@ impl Places {
     /// The places of the items.
     pub fn of<I: Placed>(alloc: Global, items: &[I]) -> Result<Places, AllocError>
         requires { length items.now ≤ 256 }
-        ensures labels { IfOk result (λ places. places.labels.items ≡ labels_by_place (crossings I.slots_of items.now)) }
-        ensures turns { IfOk result (λ places. places.turns.items ≡ turned_places 0 (crossings I.slots_of items.now)) }
-        ensures owners { IfOk result (λ places. places.owners.items ≡ owners 0 (crossings I.slots_of items.now)) }
-        ensures crossings { IfOk result (λ places. places.crossings ≡ length (crossings I.slots_of items.now)) }
+        ensures places { IfOk result (ArePlaces (crossings I.slots_of items.now)) }
         ensures few { IfOk result (λ places. vec_len places.labels ≤ 4 * length items.now) }
         ensures few_crossings { IfOk result (λ places. places.crossings ≤ length items.now) }
     {
@@ -100,10 +100,12 @@ impl Places {
                 crossings += 1;
             }
         }
+        let others = other_places(alloc, &labels)?;
         Ok(Places {
             labels,
             turns,
             owners,
+            others,
             crossings,
         })
     }

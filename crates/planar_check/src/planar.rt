@@ -1,17 +1,18 @@
 //! Diagrams and nets that were found planar.
 
-ghost use Rattle.std.specs.Prelude.{◌≡◌, ◌⊎◌, ◌≤◌, ◌≢◌, ◌-◌, slice_index, None, Some, length, IfOk, IfErr, OnOk};
-ghost use Rattle.planar_check.specs.Places.{crossings, item_slots, net_item_slots};
-ghost use Rattle.planar_check.specs.Signs.{writhe, linking};
+ghost use Rattle.std.specs.Prelude.{List, ℕ, ◌≡◌, ◌⊎◌, ◌≤◌, ◌≢◌, ◌-◌, slice_index, None, Some, length, IfOk, IfErr, IfSome, OnOk};
+ghost use Rattle.planar_check.specs.Places.{crossings, item_slots, net_item_slots, ArePlaces};
+ghost use Rattle.std.specs.List.{All};
+ghost use Rattle.planar_check.specs.Framings.{IsWithin};
+ghost use Rattle.planar_check.specs.Signs.{writhe, linking, AreCrossings};
 ghost use Rattle.planar_check.specs.Components.{component_of, least_labels};
 ghost use Rattle.planar_check.specs.Planar.{face_count, wanted_faces, planar_refusal, IsPlanar};
 
 use crate::component::{Components, component_of};
 use crate::count::{count_edges, count_faces, count_pieces};
 use crate::fault::PlanarFault;
-use crate::other::other_places;
 use crate::placed::{Placed, Places};
-use crate::sign::sign_sum;
+use crate::sign::{Signed, sign_sum};
 use pd_reader::{Diagram, NetDiagram};
 use std::alloc::{AllocError, Global};
 use std::marker::Model;
@@ -25,32 +26,35 @@ struct Faces {
 
 impl Faces {
     /// Counts faces, edges, items with slots and their connected pieces.
-    fn count<I: Placed>(alloc: Global, items: &[I]) -> Result<Faces, AllocError>
-        requires { length items.now ≤ 256 }
-        ensures found { IfOk result (λ faces. faces.found ≡ face_count (crossings I.slots_of items.now)) }
-        ensures wanted { IfOk result (λ faces. faces.wanted ≡ wanted_faces (crossings I.slots_of items.now)) }
+    fn count(alloc: Global, places: &Places) -> Result<Faces, AllocError>
+        requires places { (crossings : List (List ℕ)) × ArePlaces crossings places.now }
+        requires few { length places.now.others.items ≤ 1024 }
+        requires few_crossings { places.now.crossings ≤ 256 }
+        ensures found { IfOk result (λ faces. (crossings : List (List ℕ)) → ArePlaces crossings places.now → faces.found ≡ face_count crossings) }
+        ensures wanted { IfOk result (λ faces. (crossings : List (List ℕ)) → ArePlaces crossings places.now → faces.wanted ≡ wanted_faces crossings) }
         ensures few_found { IfOk result (λ faces. faces.found ≤ 1024) }
         ensures few_wanted { IfOk result (λ faces. faces.wanted ≤ 1536) }
     {
-        let places = Places::of(alloc, items)?;
-        let others = other_places(alloc, &places.labels)?;
-        let found = count_faces(alloc, &places.turns, &others)?;
-        let pieces = count_pieces(alloc, places.crossings, &places.owners, &others)?;
-        let edges = count_edges(&others);
+        let found = count_faces(alloc, &places.turns, &places.others)?;
+        let pieces = count_pieces(alloc, places.crossings, &places.owners, &places.others)?;
+        let edges = count_edges(&places.others);
         let wanted = (edges + 2 * pieces).saturating_sub(places.crossings);
         Ok(Faces { found, wanted })
     }
 }
 
-/// Whether the items have as many faces as planar ones.
-fn check_items<I: Placed>(alloc: Global, items: &[I]) -> Result<(), PlanarFault>
+/// The places of the items, where these have as many faces as planar ones.
+fn check_items<I: Placed>(alloc: Global, items: &[I]) -> Result<Places, PlanarFault>
     requires { length items.now ≤ 256 }
+    ensures places { IfOk result (ArePlaces (crossings I.slots_of items.now)) }
+    ensures few { IfOk result (λ places. places.crossings ≤ 256) }
     ensures ok { OnOk result (planar_refusal I.slots_of items.now ≡ None) }
     ensures refused { IfErr result (λ fault. (fault ≡ PlanarFault.Memory) ⊎ (planar_refusal I.slots_of items.now ≡ Some fault)) }
 {
-    let faces = Faces::count(alloc, items)?;
+    let places = Places::of(alloc, items)?;
+    let faces = Faces::count(alloc, &places)?;
     if faces.found == faces.wanted {
-        Ok(())
+        Ok(places)
     } else {
         Err(PlanarFault::NotPlanar {
             faces: faces.found as u32,
@@ -80,9 +84,11 @@ impl Model for Planar {
     ghost use Rattle.planar_check.specs.Planar.{IsPlanar};
     ghost use Rattle.planar_check.specs.Components.{AreComponents};
     ghost use Rattle.planar_check.specs.Signs.{AreCrossings};
+    ghost use Rattle.pd_reader.specs.Diagrams.{IsDiagram};
 
-    ghost invariant = { λ planar. IsPlanar item_slots planar.diagram
-        × AreComponents planar.diagram planar.components.labels.items planar.components.leasts.items planar.components.firsts.items
+    ghost invariant = { λ planar. IsDiagram planar.diagram
+        × IsPlanar item_slots planar.diagram
+        × AreComponents planar.diagram planar.components.names.items planar.components.leasts.items planar.components.firsts.items
         × AreCrossings planar.diagram planar.components.crossings.items };
 }
 
@@ -97,8 +103,8 @@ pub fn check(alloc: Global, diagram: Diagram) -> Result<Planar, PlanarFault>
     // A refusal has its reason, but where memory runs out.
     ensures refused { IfErr result (λ fault. (fault ≡ PlanarFault.Memory) ⊎ (planar_refusal item_slots diagram ≡ Some fault)) }
 {
-    check_items(alloc, diagram.items())?;
-    let components = Components::of(alloc, diagram.items())?;
+    let places = check_items(alloc, diagram.items())?;
+    let components = Components::of(alloc, diagram.items(), &places)?;
     Ok(Planar {
         diagram,
         components,
@@ -117,7 +123,8 @@ impl Planar {
     /// How many components there are: one for each class of labels that are reached by walking straight
     /// on at crossings, and one for each loop.
     pub fn components(&self) -> u32
-        ensures { result ≡ length (least_labels self.now) }
+        ensures count { result ≡ length (least_labels self.now) }
+        ensures few { result ≤ 512 }
     {
         self.components.firsts.len() as u32
     }
@@ -127,10 +134,11 @@ impl Planar {
     /// Components are numbered from 1 in the order of their least labels: in the Hopf link `X[2,4,3,1]`,
     /// `X[4,2,1,3]` the labels 1 and 4 have the component 1, 2 and 3 the component 2.
     pub fn component_of(&self, label: u32) -> Option<u32>
-        ensures { result ≡ component_of self.now label }
+        ensures number { result ≡ component_of self.now label }
+        ensures in_range { IfSome result (λ number. (1 ≤ number) × (number ≤ length (least_labels self.now))) }
     {
         component_of(
-            &self.components.labels,
+            &self.components.names,
             &self.components.leasts,
             &self.components.firsts,
             label,
@@ -154,6 +162,14 @@ impl Planar {
         ensures { result ≡ writhe self.now component }
     {
         sign_sum(&self.components.crossings, component, component)
+    }
+
+    /// The crossings in their order.
+    pub(crate) fn crossings(&self) -> &[Signed]
+        ensures crossings { AreCrossings self.now result.now }
+        ensures within { All (IsWithin (length (least_labels self.now))) result.now }
+    {
+        &self.components.crossings
     }
 
     /// The linking number of two components, which are 1 to `components()` and different: half the sum of
@@ -202,7 +218,7 @@ pub fn check_net(alloc: Global, net: NetDiagram) -> Result<PlanarNet, PlanarFaul
     // A refusal has its reason, but where memory runs out.
     ensures refused { IfErr result (λ fault. (fault ≡ PlanarFault.Memory) ⊎ (planar_refusal net_item_slots net ≡ Some fault)) }
 {
-    check_items(alloc, net.items())?;
+    let _places = check_items(alloc, net.items())?;
     Ok(PlanarNet { net })
 }
 

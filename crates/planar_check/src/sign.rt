@@ -1,20 +1,25 @@
 //! Signs of crossings and curls, and their sums.
 
-ghost use Rattle.std.specs.Prelude.{◌≡◌, ◌==◌, ◌+◌, ◌*◌, ◌^◌, ◌<◌, ◌≤◌, ℕ, true, length, map, slice_index, count_by, nat_le, IfOk};
+ghost use Rattle.std.specs.Prelude.{◌≡◌, ◌==◌, ◌+◌, ◌*◌, ◌^◌, ◌<◌, ◌≤◌, ℕ, length, map, slice_index, unwrap_or, count_by, nat_le, IfOk};
+ghost use Rattle.std.specs.BTreeMap.{get};
 ghost use Rattle.std.specs.List.{All, range_with_len};
-ghost use Rattle.std.specs.Set.{is_member};
+ghost use Rattle.std.specs.List.Sorted.{IsStrictlySortedBy};
+ghost use Rattle.std.specs.Ordering.{nat_cmp};
 ghost use Rattle.graph_parts.specs.LeastNames.{least_name};
-ghost use Rattle.pd_reader.specs.Items.{item_labels};
-ghost use Rattle.pd_reader.specs.Diagrams.{labels, IsDiagram};
-ghost use Rattle.planar_check.specs.Components.{least_of, least_labels};
-ghost use Rattle.planar_check.specs.Signs.{first_place, walk_edges, same_truth, sign_for, is_between, signs_between, AreCrossings};
+ghost use Rattle.pd_reader.specs.Diagrams.{IsDiagram};
+ghost use Rattle.planar_check.specs.Places.{ArePlaces};
+ghost use Rattle.planar_check.specs.Components.{rank, AreComponents};
+ghost use Rattle.planar_check.specs.Framings.{sign_value};
+ghost use Rattle.planar_check.specs.Signs.{crossings_of, walk_edges, same_truth, sign_for, is_between, signs_between, AreCrossings};
 
-use crate::component::{count_at_most, entries_of};
-use crate::other::other_places;
+use crate::component::count_at_most;
+use crate::distinct::rank;
+use crate::other::first_places;
 use crate::placed::Places;
 use part_labels::least_names;
 use pd_reader::Item;
 use std::alloc::{AllocError, Global};
+use std::collections::BTreeMap;
 
 /// A sign: of a crossing, a curl or a blow-up.
 ///
@@ -28,6 +33,18 @@ pub enum Sign {
     Minus,
 }
 
+impl Sign {
+    /// The sign as a number.
+    pub(crate) fn value(self) -> i64
+        ensures { result ≡ sign_value self }
+    {
+        match self {
+            Sign::Plus => 1,
+            Sign::Minus => -1,
+        }
+    }
+}
+
 /// A crossing: the components of its strands, and its sign.
 #[derive(Clone, Copy, Debug)]
 pub(crate) struct Signed {
@@ -36,51 +53,46 @@ pub(crate) struct Signed {
     pub sign: Sign,
 }
 
-/// The least place of the label, or 0.
-fn first_place(labels: &[u32], label: u32) -> usize
-    ensures place { result ≡ first_place labels.now label }
-    ensures in_range { 0 < length labels.now → result < length labels.now }
+/// The least place of the label, where `firsts` has the least place of each, or 0.
+fn first_place(firsts: &BTreeMap<u32, usize>, label: u32) -> usize
+    ensures { result ≡ unwrap_or (get nat_cmp firsts.now label) 0 }
 {
-    for (place, other) in labels.iter().enumerate() {
-        if *other == label {
-            return place;
-        }
-    }
-    0
+    firsts.get(&label).copied().unwrap_or(0)
 }
 
 /// Whether the walk of the place's component enters its crossing there.
-fn enters(labels: &[u32], walks: &[usize], leasts: &[u32], place: usize) -> bool
-    requires in_range { place < length labels.now }
-    requires walks { length walks.now ≡ length labels.now }
-    requires leasts { length leasts.now ≡ length labels.now }
-    ensures { result ≡ (slice_index walks.now place == slice_index walks.now (first_place labels.now (slice_index leasts.now place))) }
+fn enters(firsts: &BTreeMap<u32, usize>, walks: &[usize], leasts: &[u32], place: usize) -> bool
+    requires walks { place < length walks.now }
+    requires leasts { place < length leasts.now }
+    requires firsts { unwrap_or (get nat_cmp firsts.now (slice_index leasts.now place)) 0 < length walks.now }
+    ensures { result ≡ (slice_index walks.now place == slice_index walks.now (unwrap_or (get nat_cmp firsts.now (slice_index leasts.now place)) 0)) }
 {
-    walks[place] == walks[first_place(labels, leasts[place])]
+    walks[place] == walks[first_place(firsts, leasts[place])]
 }
 
 /// The crossing with this number, from 0.
 fn signed_at(
-    labels: &[u32],
+    places: &BTreeMap<u32, usize>,
     walks: &[usize],
     leasts: &[u32],
     firsts: &[u32],
     crossing: usize,
 ) -> Signed
-    requires in_range { 4 * crossing + 3 < length labels.now }
+    requires in_range { 4 * crossing + 3 < length walks.now }
     requires small { crossing < 2 ^ 32 }
-    requires walks { length walks.now ≡ length labels.now }
-    requires leasts { length leasts.now ≡ length labels.now }
+    requires places { (label : ℕ) → unwrap_or (get nat_cmp places.now label) 0 < length walks.now }
+    requires leasts { length leasts.now ≡ length walks.now }
     requires few { length firsts.now < 2 ^ 32 }
+    requires sorted { IsStrictlySortedBy nat_cmp firsts.now }
     ensures under { result.under ≡ count_by (λ first. nat_le first (slice_index leasts.now (4 * crossing))) firsts.now }
     ensures over { result.over ≡ count_by (λ first. nat_le first (slice_index leasts.now (4 * crossing + 1))) firsts.now }
     ensures sign { result.sign ≡ sign_for (same_truth
-        (slice_index walks.now (4 * crossing) == slice_index walks.now (first_place labels.now (slice_index leasts.now (4 * crossing))))
-        (slice_index walks.now (4 * crossing + 3) == slice_index walks.now (first_place labels.now (slice_index leasts.now (4 * crossing + 3))))) }
+        (slice_index walks.now (4 * crossing) == slice_index walks.now (unwrap_or (get nat_cmp places.now (slice_index leasts.now (4 * crossing))) 0))
+        (slice_index walks.now (4 * crossing + 3) == slice_index walks.now (unwrap_or (get nat_cmp places.now (slice_index leasts.now (4 * crossing + 3))) 0))) }
 {
     let start = 4 * crossing;
-    let from_below = enters(labels, walks, leasts, start);
-    let from_above = enters(labels, walks, leasts, start + 3);
+    let from_below = enters(places, walks, leasts, start);
+    let from_above = enters(places, walks, leasts, start + 3);
     Signed {
         under: count_at_most(firsts, leasts[start]),
         over: count_at_most(firsts, leasts[start + 1]),
@@ -149,29 +161,46 @@ fn walks(alloc: Global, turns: &[usize], others: &[usize]) -> Result<Vec<usize>,
     Ok(walks)
 }
 
-/// The crossings of a diagram in their order, where each label's entry is the least label of its
-/// component, and `firsts` are these of all components.
+/// For each label of the list the least label of its component.
+fn leasts_at(
+    alloc: Global,
+    labels: &[u32],
+    names: &[u32],
+    leasts: &[u32],
+) -> Result<Vec<u32>, AllocError>
+    requires sorted { IsStrictlySortedBy nat_cmp names.now }
+    requires in_range { All (λ label. rank names.now label < length leasts.now) labels.now }
+    ensures { IfOk result (λ found. found.items ≡ map (λ label. slice_index leasts.now (rank names.now label)) labels.now) }
+{
+    let mut found = Vec::new(alloc);
+    for label in labels {
+        found.push(leasts[rank(names, *label)])?;
+    }
+    Ok(found)
+}
+
+/// The crossings of a diagram in their order, where `names` are its different labels, `leasts` the least
+/// labels of their components, and `firsts` these of all components.
 pub(crate) fn signed_crossings(
     alloc: Global,
     items: &[Item],
-    entries: &[usize],
+    places: &Places,
+    names: &[u32],
+    leasts: &[u32],
     firsts: &[u32],
 ) -> Result<Vec<Signed>, AllocError>
     requires diagram { IsDiagram items.now }
-    requires covers { (label : ℕ) → is_member ◌==◌ (labels item_labels items.now) label ≡ true → label < length entries.now }
-    requires entries { (label : ℕ) → is_member ◌==◌ (labels item_labels items.now) label ≡ true → slice_index entries.now label ≡ least_of items.now label }
-    requires small { All (λ entry. entry < 2 ^ 32) entries.now }
-    requires firsts { firsts.now ≡ least_labels items.now }
-    requires few { length firsts.now < 2 ^ 32 }
+    requires places { ArePlaces (crossings_of items.now) places.now }
+    requires few { places.now.crossings ≤ 256 }
+    requires components { AreComponents items.now names.now leasts.now firsts.now }
     ensures { IfOk result (λ crossings. AreCrossings items.now crossings.items) }
 {
-    let places = Places::of(alloc, items)?;
-    let others = other_places(alloc, &places.labels)?;
-    let walks = walks(alloc, &places.turns, &others)?;
-    let leasts = entries_of(alloc, &places.labels, entries)?;
+    let walks = walks(alloc, &places.turns, &places.others)?;
+    let firsts_met = first_places(alloc, &places.labels)?;
+    let leasts = leasts_at(alloc, &places.labels, names, leasts)?;
     let mut crossings = Vec::new(alloc);
     for crossing in 0..places.crossings {
-        let signed = signed_at(&places.labels, &walks, &leasts, firsts, crossing);
+        let signed = signed_at(&firsts_met, &walks, &leasts, firsts, crossing);
         crossings.push(signed)?;
     }
     Ok(crossings)

@@ -1,11 +1,15 @@
-//! Worked rows: diagrams and nets with their numbers of faces, found by hand, and the faces of three.
+//! Worked rows, found by hand: diagrams and nets with their numbers of faces, faces, components, framings and
+//! linking matrices.
 
-use crate::{PlanarFault, check, check_net, faces};
+use crate::{Framed, FramedFault, PlanarFault, check, check_net, faces, linking_matrix};
 use pd_reader::{read_net, read_pd};
 use std::test::Fail;
 
 /// The left-handed trefoil.
 const TREFOIL: &[u8] = b"PD[X[1,4,2,5],X[3,6,4,1],X[5,2,6,3]]";
+
+/// A chain of three, whose middle is component 1.
+const CHAIN: &[u8] = b"PD[X[1,6,2,5],X[6,3,5,2],X[3,8,4,7],X[8,1,7,4]]";
 
 const FIGURE_EIGHT: &[u8] = b"PD[X[4,2,5,1],X[8,6,1,5],X[6,3,7,4],X[2,7,3,8]]";
 
@@ -20,7 +24,7 @@ const DIAGRAMS: [(&[u8], Option<PlanarFault>); 12] = [
     (b"PD[X[1,2,2,1]]", None),
     (b"PD[X[1,1,2,2],Loop[5],X[3,4,4,3]]", None),
     (b"PD[X[2,4,3,1],X[4,2,1,3]]", None),
-    (b"PD[X[1,6,2,5],X[6,3,5,2],X[3,8,4,7],X[8,1,7,4]]", None),
+    (CHAIN, None),
     (
         b"PD[X[1,2,1,2]]",
         Some(PlanarFault::NotPlanar {
@@ -62,12 +66,18 @@ const FACES: [(&[u8], &[&[u32]]); 3] = [
 
 /// Text; of each component the least label and the writhe; and the linking numbers of the second
 /// component with the first, of the third with the first and the second, and so on.
-const COMPONENTS: [(&[u8], &[u32], &[i64], &[i64]); 9] = [
+const COMPONENTS: [(&[u8], &[u32], &[i64], &[i64]); 10] = [
     (b"PD[]", &[], &[], &[]),
     (TREFOIL, &[1], &[-3], &[]),
     (FIGURE_EIGHT, &[1], &[0], &[]),
     (b"PD[X[1,1,2,2]]", &[1], &[1], &[]),
     (b"PD[X[1,2,2,1]]", &[1], &[-1], &[]),
+    (
+        b"PD[X[999998,999999,999999,999998]]",
+        &[999_998],
+        &[-1],
+        &[],
+    ),
     (b"PD[X[2,4,3,1],X[4,2,1,3]]", &[1, 2], &[0, 0], &[1]),
     (b"PD[Loop[7],Loop[2]]", &[2, 7], &[0, 0], &[0]),
     (
@@ -92,6 +102,80 @@ const HOPF: [(u32, Option<u32>); 5] = [
     (4, Some(1)),
     (5, None),
 ];
+
+/// 2^60.
+const GREATEST: i64 = 1_152_921_504_606_846_976;
+
+/// Framings for the chain of three, and why they are not its framings.
+const FRAMINGS: [(&[i64], Option<FramedFault>); 6] = [
+    (&[0, GREATEST, -GREATEST], None),
+    (
+        &[0, 0],
+        Some(FramedFault::Count {
+            given: 2,
+            wanted: 3,
+        }),
+    ),
+    (
+        &[GREATEST + 1],
+        Some(FramedFault::Count {
+            given: 1,
+            wanted: 3,
+        }),
+    ),
+    (
+        &[0, GREATEST + 1, -GREATEST - 1],
+        Some(FramedFault::Size { component: 2 }),
+    ),
+    (
+        &[0, 0, -GREATEST - 1],
+        Some(FramedFault::Size { component: 3 }),
+    ),
+    (&[i64::MIN, 0, 0], Some(FramedFault::Size { component: 1 })),
+];
+
+/// Text, framings, and the linking matrix by rows.
+const MATRICES: [(&[u8], &[i64], &[i128]); 5] = [
+    (b"PD[]", &[], &[]),
+    (TREFOIL, &[-1], &[-1]),
+    (b"PD[Loop[7],Loop[2]]", &[3, -5], &[3, 0, 0, -5]),
+    (b"PD[X[2,4,3,1],X[4,2,1,3]]", &[2, -7], &[2, 1, 1, -7]),
+    (CHAIN, &[0, 0, 0], &[0, 1, 1, 1, 0, 0, 1, 0, 0]),
+];
+
+#[test]
+fn framings(rt: HostRuntime) -> Result<(), Fail> {
+    for (framings, fault) in FRAMINGS {
+        let planar = check(rt.alloc(), read_pd(rt.alloc(), CHAIN)?)?;
+        match Framed::new(rt.alloc(), planar, framings) {
+            Ok(framed) => {
+                assert_eq!(rt; fault, None);
+                assert_eq!(rt; framed.planar().components(), 3);
+                assert_eq!(rt; Some(framed.framing(3)), framings.get(2).copied());
+            }
+            Err(found) => assert_eq!(rt; fault, Some(found)),
+        }
+    }
+    Ok(())
+}
+
+#[test]
+fn matrices(rt: HostRuntime) -> Result<(), Fail> {
+    for (text, framings, entries) in MATRICES {
+        let planar = check(rt.alloc(), read_pd(rt.alloc(), text)?)?;
+        let framed = Framed::new(rt.alloc(), planar, framings)?;
+        let matrix = linking_matrix(rt.alloc(), &framed)?;
+        let size = matrix.size();
+        let mut wanted = entries.iter();
+        for row in 0..size {
+            for column in 0..size {
+                assert_eq!(rt; wanted.next().copied(), Some(matrix.entry(row, column)));
+            }
+        }
+        assert_eq!(rt; wanted.next().copied(), None);
+    }
+    Ok(())
+}
 
 #[test]
 fn components(rt: HostRuntime) -> Result<(), Fail> {

@@ -1,9 +1,7 @@
-use Rattle.std.proofs.Common.{◌≡◌, ◌==◌, ◌&&◌, ◌≤◌, false, get_or, slice_index, vec_len}
-use Rattle.std.specs.List.{filter, range_with_len}
+use Rattle.std.proofs.Common.{◌≡◌, ◌==◌, ℕ, map, take}
+use Rattle.std.specs.List.{filter}
 use Rattle.planar_check.proofs.component.own_names.Given as goal
 
-abbrev pub invariant-loop-name : goal.invariant-loop-name
-invariant-loop-name l = record {
-  own : l.own.items ≡ filter (λ n. get_or l.stands n false && slice_index l.entries n == n) (range_with_len 0 l.name);
-  few : vec_len l.own ≤ l.name;
-}
+-- of the names so far, those that are their own least ones
+abbrev pub invariant-loop-rank : goal.invariant-loop-rank
+invariant-loop-rank l = (least : ℕ → ℕ) → l.leasts ≡ map least l.names → l.own.items ≡ filter (λ name. least name == name) (take l.rank l.names)

@@ -1,0 +1,12 @@
+use Rattle.std.proofs.Common.{◌≡◌, map}
+use Rattle.std.specs.List.{range_with_len}
+use Rattle.inertia_cert.specs.SymmetricMatrices.{AllFit}
+use Rattle.planar_check.specs.Framings.{entry_from}
+use Rattle.planar_check.proofs.linking.entries.Given as goal
+
+-- the entries at the places so far
+abbrev pub invariant-loop-place : goal.invariant-loop-place
+invariant-loop-place l = record {
+  are : l.entries.items ≡ map (entry_from l.framings l.sums) (range_with_len 0 l.place);
+  fit : AllFit l.entries.items;
+}
