@@ -11,9 +11,9 @@ pub mod TableEnds
 pub mod TableLimits
 pub mod TurnSteps
 pub mod FirstLeast
-pub mod Ranks
 pub mod OpenNamesSorted
 pub mod OpenNames
 pub mod OrdersPlaces
 pub mod OrdersTaken
 pub mod ChosenOrders
+pub mod OpenWith

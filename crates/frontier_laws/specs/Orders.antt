@@ -13,10 +13,10 @@
 --     order_by next network steps        the places that an order takes in so many steps
 --     IsChosen answers network order     each place is an answer on the view of those before it
 use Rattle.std.specs.Prelude.{ℕ, ◌+◌, ◌<◌, ◌≤◌, ◌==◌, nat_lt, not, if◌then◌else◌, List, [], ◌∷◌, ◌++◌, map, length, slice_index, take, get_or}
-use Rattle.std.specs.List.{All, filter, fold, range_with_len}
+use Rattle.std.specs.List.{All, filter, fold, position, range_with_len}
+use Rattle.std.specs.Option.{unwrap_or}
 use Rattle.std.specs.Set.{is_member}
 use Rattle.state_sums.specs.Networks.{Node, Network, names_of, times_in}
-use Rattle.arc_gluing.specs.Seams.{place_in}
 use Rattle.arc_pairing.specs.Gluing.{single_count}
 
 -- The node at that place; past the end, one with no end and no term.
@@ -88,7 +88,7 @@ greedy_of view = first_least (open_with view) view.left
 
 -- Where a group stands in a list of groups; those that are not in it come behind, increasing.
 abbrev pub rank_in : List ℕ → ℕ → ℕ
-rank_in groups group = let place = place_in groups group in if nat_lt place (length groups) then place else place + group
+rank_in groups group = unwrap_or (position (λ other. group == other) groups) (length groups + group)
 
 -- Given: the least place left of the group that stands first in the list.
 abbrev pub given_of : List ℕ → View → ℕ

@@ -1,10 +1,9 @@
 //! The three orders.
 
-ghost use Rattle.std.specs.Prelude.{◌≡◌, ◌≢◌, ◌<◌, ◌≤◌, ◌==◌, ◌++◌, ⊤, ℕ, [], length, true};
-ghost use Rattle.std.specs.List.{All, count_by};
+ghost use Rattle.std.specs.Prelude.{not, ◌&&◌, ◌≡◌, ◌≢◌, ◌<◌, ◌≤◌, ◌==◌, ◌++◌, ⊤, ℕ, [], length, true};
+ghost use Rattle.std.specs.List.{All, count_by, position};
 ghost use Rattle.std.specs.Set.{is_member};
 ghost use Rattle.state_sums.specs.Networks.{times_in};
-ghost use Rattle.arc_gluing.specs.Seams.{place_in};
 ghost use Rattle.frontier_sweep.specs.Next.{next_of, next_of-left};
 ghost use Rattle.frontier_laws.specs.Orders.{node_at, first_least, listed_of, greedy_of, given_of, open_with, rank_in};
 
@@ -37,20 +36,21 @@ fn times(names: &[u32], name: u32) -> usize
     names.iter().filter(|other| name == **other).count()
 }
 
-/// Whether the name stands once in both lists together.
-fn stands_once(names: &[u32], ends: &[u32], name: u32) -> bool
-    ensures { result ≡ (times_in (names.now ++ ends.now) name == 1) }
+/// How many of the names are no ends.
+fn kept_names(names: &[u32], ends: &[u32]) -> usize
+    ensures value { result ≡ count_by (λ name. not (is_member ◌==◌ ends.now name)) names.now }
+    ensures bound { result ≤ length names.now }
 {
-    times(names, name) + times(ends, name) == 1
+    names.iter().filter(|name| !ends.contains(*name)).count()
 }
 
-/// How many of these stand once in both lists together.
-fn single_among(among: &[u32], names: &[u32], ends: &[u32]) -> usize
-    ensures { result ≡ count_by (λ name. times_in (names.now ++ ends.now) name == 1) among.now }
+/// How many of the ends are none of the names and stand once.
+fn new_names(names: &[u32], ends: &[u32]) -> usize
+    ensures value { result ≡ count_by (λ end. not (is_member ◌==◌ names.now end) && (times_in ends.now end == 1)) ends.now }
+    ensures bound { result ≤ length ends.now }
 {
-    among
-        .iter()
-        .filter(|name| stands_once(names, ends, **name))
+    ends.iter()
+        .filter(|end| !names.contains(*end) && times(ends, **end) == 1)
         .count()
 }
 
@@ -61,31 +61,23 @@ fn open_with(view: &View, place: u32) -> u64
 {
     let names = view.names();
     let ends = view.network().nodes()[place as usize].ends();
-    (single_among(names, names, ends) + single_among(ends, names, ends)) as u64
+    (kept_names(names, ends) + new_names(names, ends)) as u64
 }
 
-/// The first place of the group in the list, or the length.
-fn place_in(groups: &[u32], group: u32) -> usize
-    ensures place { result ≡ place_in groups.now group }
-    ensures bound { result ≤ length groups.now }
+/// The first place of the group in the list.
+fn place_of(groups: &[u32], group: u32) -> Option<usize>
+    ensures { result ≡ position (λ other. group == other) groups.now }
 {
-    for (place, other) in groups.iter().enumerate() {
-        if group == *other {
-            return place;
-        }
-    }
-    groups.len()
+    groups.iter().position(|other| group == *other)
 }
 
 /// Where a group stands in a list of groups; those that are not in it come behind, increasing.
 fn rank_in(groups: &[u32], group: u32) -> u64
     ensures { result ≡ rank_in groups.now group }
 {
-    let place = place_in(groups, group);
-    if place < groups.len() {
-        place as u64
-    } else {
-        place as u64 + u64::from(group)
+    match place_of(groups, group) {
+        Some(place) => place as u64,
+        None => groups.len() as u64 + u64::from(group),
     }
 }
 

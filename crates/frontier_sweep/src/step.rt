@@ -74,6 +74,7 @@ pub(crate) fn glue_table(
     ensures full { result ≡ Err NotAdded.Full → OverflowsIn step.entry.powers.now.modulus step.entry.powers.now.delta step.entry.seam.now step.entry.terms.now table.now }
 {
     for at in 0..table.len() {
+        // Each code of a table spells a pairing.
         let (code, coefficient) = table.entry(at);
         if let Some(pairing) = Pairing::from_code(code) {
             glue_terms(step, &pairing, coefficient, next, turns)?;

@@ -58,7 +58,8 @@ impl<'a> View<'a> {
 
     /// The open names, increasing. It takes no memory.
     pub fn names(&self) -> &[u32]
-        ensures { result.now ≡ self.now.names }
+        ensures value { result.now ≡ self.now.names }
+        ensures view { IsView self.now }
     {
         self.names
     }

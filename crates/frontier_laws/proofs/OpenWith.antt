@@ -1,0 +1,53 @@
+-- How many names are open with one more node, counted with no search for each two names.
+--
+-- Others cite: single_count-once, once_open.
+use Rattle.std.proofs.Common.{◌≡◌, ℕ, ◌+◌, ◌≤◌, ◌==◌, Bool, true, false, not, ◌&&◌, List, ◌++◌, ap, arith}
+use Rattle.std.specs.List.{count_by}
+use Rattle.std.specs.Set.{is_member}
+use Rattle.std.proofs.lemmas.Bool.Decides.{nat_tests}
+use Rattle.std.proofs.lemmas.List.Sums.{sum_by-append}
+use Rattle.state_sums.specs.Networks.{Node, times_in}
+use Rattle.graph_parts.proofs.PartLaws.{count_by_all}
+use Rattle.arc_gluing.proofs.AllEdges.{times_of_member, member_of_times}
+use Rattle.arc_gluing.proofs.PointPairs.{times_in-append}
+use Rattle.arc_pairing.specs.Gluing.{single_count}
+use Rattle.frontier_laws.specs.Orders.{open_names}
+use Rattle.frontier_laws.proofs.OpenNames.{AreOpen-open_names}
+
+-- A name that is no member stands nowhere.
+times_none : (xs : List ℕ) (x : ℕ) → is_member ◌==◌ xs x ≡ false → times_in xs x ≡ 0
+times_none xs x none = let m = member_of_times x xs in grind (arith, none, m)
+
+times_some : (xs : List ℕ) (x : ℕ) → is_member ◌==◌ xs x ≡ true → 1 ≤ times_in xs x
+times_some xs x some = times_of_member x xs some
+
+module _ (names ends : List ℕ) (once : (x : ℕ) → times_in names x ≤ 1) where
+  kept : (x : ℕ) → is_member ◌==◌ names x ≡ true → (times_in (names ++ ends) x == 1) ≡ not (is_member ◌==◌ ends x)
+  kept x member =
+      let a = times_in-append names ends x in
+      let o = once x in
+      let s = times_some names x member in
+      let yes = times_some ends x in
+      let none = times_none ends x in
+      grind (arith, nat_tests, a, o, s, yes, none)
+
+  new : (x : ℕ) → is_member ◌==◌ ends x ≡ true → (times_in (names ++ ends) x == 1) ≡ (not (is_member ◌==◌ names x) && (times_in ends x == 1))
+  new x member =
+      let a = times_in-append names ends x in
+      let s = times_some ends x member in
+      let yes = times_some names x in
+      let none = times_none names x in
+      grind (arith, nat_tests, a, s, yes, none)
+
+  -- Of names that stand once each, those that are no ends stay open, and the ends that are none of them and stand once are new.
+  pub single_count-once : single_count (names ++ ends) ≡ count_by (λ name. not (is_member ◌==◌ ends name)) names + count_by (λ end. not (is_member ◌==◌ names end) && (times_in ends end == 1)) ends
+  single_count-once =
+      let p : ℕ → Bool = λ x. times_in (names ++ ends) x == 1 in
+      let both : count_by p (names ++ ends) ≡ count_by p names + count_by p ends = sum_by-append _ names ends in
+      let one = count_by_all p (λ name. not (is_member ◌==◌ ends name)) names kept in
+      let two = count_by_all p (λ end. not (is_member ◌==◌ names end) && (times_in ends end == 1)) ends new in
+      omega (arith, both, one, two)
+
+-- Open names stand once each.
+pub once_open : (nodes : List Node) (names : List ℕ) → names ≡ open_names nodes → (x : ℕ) → times_in names x ≤ 1
+once_open nodes names is x = let o = (AreOpen-open_names nodes).once x in let e = ap (λ (names : List ℕ). times_in names x) is in grind (arith, nat_tests, o, e)
