@@ -17,3 +17,4 @@ pub mod OrdersPlaces
 pub mod OrdersTaken
 pub mod ChosenOrders
 pub mod OpenWith
+pub mod FixedOrders

@@ -1,6 +1,6 @@
 -- Places of nodes, taken one by one: which are taken and which are left.
 --
--- Others cite: IsPartOrder-none, IsPartOrder-more, left_at, left_below, left_none, left_increasing, left_all_below, left_more, order_and_left, order_length, taken_again.
+-- Others cite: IsPartOrder-none, left_below, IsPartOrder-more, left_none, left_increasing, left_all_below, left_more, order_and_left, order_length, taken_again.
 use Rattle.std.proofs.Common.{◌≡◌, ℕ, zero, suc, ◌+◌, ◌<◌, ◌≤◌, ◌==◌, nat_lt, Bool, true, false, cond, not, ◌&&◌, ⊎_elim, List, [], ◌∷◌, ◌++◌, length, slice_index, refl, sym, ap, subst, ◌∙◌, arith, length-append}
 use Rattle.std.specs.List.{All, AllPairs, filter, range_with_len, remove}
 use Rattle.std.specs.List.Sorted.{IsStrictlyIncreasing, IsPermutation}
@@ -12,7 +12,6 @@ use Rattle.std.proofs.lemmas.List.FromFn.{length-range_with_len, get_or-range_wi
 use Rattle.std.proofs.lemmas.List.Kept.{AllPairs-from_increasing, IsStrictlyIncreasing-filter}
 use Rattle.std.proofs.lemmas.List.Sorted.{length_permutation}
 use Rattle.graph_parts.proofs.Distinct.{is_member-append}
-use Rattle.graph_parts.proofs.Ends.{is_member-get_or}
 use Rattle.graph_parts.proofs.Numbered.{is_member-numbered, numbered-member}
 use Rattle.state_sums.specs.Networks.{times_in}
 use Rattle.arc_gluing.proofs.AllEdges.{times_of_member, member_of_times}
@@ -45,10 +44,6 @@ left_below count order place m =
     let some = times_of_member place (left_after count order) m in
     let e = times_left count order place in
     (grind (arith, nat_tests, some, e), grind (arith, nat_tests, some, e))
-
--- The place at an index of those left is one of them.
-pub left_at : (count : ℕ) (order : List ℕ) (place at : ℕ) → at < length (left_after count order) → slice_index (left_after count order) at ≡ place → is_member ◌==◌ (left_after count order) place ≡ true
-left_at count order place at l e = ap (is_member ◌==◌ (left_after count order)) (sym e) ∙ is_member-get_or (left_after count order) at l
 
 -- A place that is left may be taken next.
 pub IsPartOrder-more : (count : ℕ) (order : List ℕ) (place : ℕ) → IsPartOrder count order → is_member ◌==◌ (left_after count order) place ≡ true → IsPartOrder count (order ++ place ∷ [])

@@ -1,6 +1,6 @@
 -- The nodes that an order of places takes: they keep what holds of the nodes, and all of them are the network.
 --
--- Others cite: taken_more, taken_length, All-taken, AreShort-taken, WeightsBelow-taken, AreFew-network, taken_and_left, AreFew-taken, whole_permuted, view_names, AreNodes-taken, AreFew-order, whole_value, whole_closed, shown_in_view.
+-- Others cite: taken_more, taken_length, AreNodes-taken, AreFew-order, whole_value, whole_closed, shown_in_view.
 use Rattle.std.proofs.Common.{◌≡◌, ℕ, ◌<◌, ◌≤◌, List, [], ◌∷◌, ◌++◌, map, length, refl, sym, ap, subst, ◌∙◌, arith, append-nil}
 use Rattle.std.specs.List.{All, range_with_len, sum_by}
 use Rattle.std.specs.List.Sorted.{IsPermutation, IsStrictlyIncreasing}
@@ -9,14 +9,13 @@ use Rattle.std.proofs.lemmas.List.Elements.{All-get_or, All-map, All-weaker}
 use Rattle.std.proofs.lemmas.List.FromFn.{fill_by_all}
 use Rattle.std.proofs.lemmas.List.Sorted.{IsPermutation-map, sum_by-IsPermutation}
 use Rattle.std.proofs.lemmas.List.Sums.{sum_by-cons}
-use Rattle.state_sums.specs.Networks.{Node, Network, IsNode, IsNetwork, WeightsBelow, names_of, times_in}
+use Rattle.state_sums.specs.Networks.{Node, Network, IsNode, IsNetwork, names_of, times_in}
 use Rattle.state_sums.specs.StateSums.{value}
 use Rattle.state_sums.proofs.NetworkLaws.{any_order}
 use Rattle.arc_gluing.specs.Laws.{AreFew}
 use Rattle.arc_gluing.proofs.AllEdges.{member_of_times}
 use Rattle.arc_gluing.proofs.EachState.{names_of-append}
 use Rattle.arc_gluing.proofs.PointPairs.{times_in-append}
-use Rattle.arc_pairing.specs.Nodes.{IsShortNode}
 use Rattle.frontier_laws.specs.Orders.{node_at, taken, left_after, open_names, view_after, IsPartOrder}
 use Rattle.frontier_laws.proofs.OpenNames.{open_names-same, open_names-closed}
 use Rattle.frontier_laws.proofs.OrdersPlaces.{left_increasing, left_all_below, order_and_left, taken_again}
@@ -34,14 +33,6 @@ pub All-taken : (P : Node → Type 0) (nodes : List Node) (order : List ℕ) →
 All-taken P nodes order h all =
     All-map P (node_at nodes) order
     (All-weaker (λ place. place < length nodes) (λ place. P (node_at nodes place)) (λ place l. All-get_or P nodes place record { group = 0; ends = []; terms = [] } l all) order h.below)
-
--- Short nodes stay short.
-pub AreShort-taken : (nodes : List Node) (order : List ℕ) → IsPartOrder (length nodes) order → All IsShortNode nodes → All IsShortNode (taken nodes order)
-AreShort-taken nodes order h short = All-taken IsShortNode nodes order h short
-
--- Each weight of the nodes that are taken is below m.
-pub WeightsBelow-taken : (m : ℕ) (nodes : List Node) (order : List ℕ) → IsPartOrder (length nodes) order → WeightsBelow m nodes → WeightsBelow m (taken nodes order)
-WeightsBelow-taken m nodes order h small = All-taken (λ node. All (λ term. term.weight < m) node.terms) nodes order h small
 
 -- ---- how often a name stands in nodes in another order
 times_names : (nodes : List Node) (x : ℕ) → times_in (names_of nodes) x ≡ sum_by (λ node. times_in node.ends x) nodes

@@ -1,7 +1,7 @@
 -- While a node is added: a code that is new fits among the pairings after the node, so that where the table is full already,
--- there are more pairings than it holds. And how many items come.
+-- there are more pairings than it holds.
 --
--- Others cite: new_code_fits, new_code_fits_at, added_more_at, added_all_at, items_length, turns_after.
+-- Others cite: added_all_at, new_code_fits_at.
 use Rattle.std.proofs.Common.{◌≡◌, ℕ, suc, ◌+◌, ◌<◌, ◌≤◌, ◌==◌, false, List, [], ◌∷◌, ◌++◌, map, length, take, drop, get_or, sym, ap, ◌∙◌}
 use Rattle.std.specs.List.{All}
 use Rattle.std.specs.Map.{keys_of}
@@ -13,19 +13,11 @@ use Rattle.arc_gluing.specs.Laws.{AreFew}
 use Rattle.arc_gluing.specs.Pairings.{AreOpen}
 use Rattle.arc_pairing.specs.Gluing.{Seam}
 use Rattle.frontier_laws.specs.Orders.{open_names}
-use Rattle.frontier_laws.specs.Tables.{add_in, add_all, contribution, contributions, IsTableOf}
+use Rattle.frontier_laws.specs.Tables.{add_all, contribution, contributions, IsTableOf}
 use Rattle.frontier_laws.specs.Turns.{pairing_count, open_count}
 use Rattle.frontier_laws.proofs.NextPairings.{seam_of}
-use Rattle.frontier_laws.proofs.TableCounts.{table_small, table_small_new}
-use Rattle.frontier_laws.proofs.TableLoops.{items_so_far, items_split, added_more, added_all}
-
--- ---- by places
--- One term more, in the loop over the terms.
-pub added_more_at : (m delta : ℕ) (seam : Seam) (terms : List Term) (done : List (ℕ × ℕ)) (entry : ℕ × ℕ) (j : ℕ) (d : Term) → j < length terms →
-    let item = contribution delta seam entry (get_or terms j d) in
-    add_all m [] (items_so_far delta seam terms done entry (take (j + 1) terms)) ≡ add_in m item.0 item.1 (add_all m [] (items_so_far delta seam terms done entry (take j terms)))
-added_more_at m delta seam terms done entry j d l =
-    ap (λ past. add_all m [] (items_so_far delta seam terms done entry past)) (take_more terms j d l) ∙ added_more delta seam terms done entry m (take j terms) (get_or terms j d)
+use Rattle.frontier_laws.proofs.TableCounts.{table_small_new}
+use Rattle.frontier_laws.proofs.TableLoops.{items_so_far, items_split, added_all}
 
 -- One entry more, in the loop over the entries.
 pub added_all_at : (m delta : ℕ) (seam : Seam) (terms : List Term) (table : List (ℕ × ℕ)) (i : ℕ) (d : ℕ × ℕ) → i < length table →
@@ -36,15 +28,6 @@ added_all_at m delta seam terms table i d l =
 module _ (nodes : List Node) (node : Node) (ok : All IsNode nodes) (node_ok : IsNode node) (few : AreFew (nodes ++ node ∷ [])) (narrow : open_count nodes ≤ 24)
     (narrow_after : open_count (nodes ++ node ∷ []) ≤ 24) (open_in : AreOpen (names_of nodes) (open_names nodes)) (open_out : AreOpen (names_of (nodes ++ node ∷ [])) (open_names (nodes ++ node ∷ [])))
     (m delta : ℕ) (table : List (ℕ × ℕ)) (h : IsTableOf m delta nodes table) where
-  -- The table so far has no more entries than there are pairings after the node.
-  pub so_far_small : (done rest : List (ℕ × ℕ)) (entry : ℕ × ℕ) (past left : List Term) (term : Term) → table ≡ done ++ entry ∷ rest → node.terms ≡ past ++ term ∷ left →
-      length (add_all m [] (items_so_far delta (seam_of nodes node) node.terms done entry past)) ≤ pairing_count (nodes ++ node ∷ [])
-  so_far_small done rest entry past left term table_is terms_are =
-      let seam = seam_of nodes node in
-      table_small nodes node ok node_ok few narrow narrow_after open_in open_out m delta table h (items_so_far delta seam node.terms done entry past)
-      (contribution delta seam entry term ∷ (map (contribution delta seam entry) left ++ contributions delta seam node.terms rest))
-      (items_split delta seam node.terms done entry table rest past left term table_is terms_are)
-
   -- A NEW CODE FITS
   pub new_code_fits : (done rest : List (ℕ × ℕ)) (entry : ℕ × ℕ) (past left : List Term) (term : Term) → table ≡ done ++ entry ∷ rest → node.terms ≡ past ++ term ∷ left →
       let so_far = add_all m [] (items_so_far delta (seam_of nodes node) node.terms done entry past) in
@@ -54,12 +37,6 @@ module _ (nodes : List Node) (node : Node) (ok : All IsNode nodes) (node_ok : Is
       table_small_new nodes node ok node_ok few narrow narrow_after open_in open_out m delta table h (items_so_far delta seam node.terms done entry past)
       (map (contribution delta seam entry) left ++ contributions delta seam node.terms rest) (contribution delta seam entry term)
       (items_split delta seam node.terms done entry table rest past left term table_is terms_are) new
-
-  -- The same by places.
-  pub so_far_small_at : (i j : ℕ) (d : ℕ × ℕ) (e : Term) → i < length table → j < length node.terms →
-      length (add_all m [] (items_so_far delta (seam_of nodes node) node.terms (take i table) (get_or table i d) (take j node.terms))) ≤ pairing_count (nodes ++ node ∷ [])
-  so_far_small_at i j d e entry_in term_in =
-      so_far_small (take i table) (drop (suc i) table) (get_or table i d) (take j node.terms) (drop (suc j) node.terms) (get_or node.terms j e) (split_at table i d entry_in) (split_at node.terms j e term_in)
 
   pub new_code_fits_at : (i j : ℕ) (d : ℕ × ℕ) (e : Term) → i < length table → j < length node.terms →
       let so_far = add_all m [] (items_so_far delta (seam_of nodes node) node.terms (take i table) (get_or table i d) (take j node.terms)) in

@@ -1,6 +1,6 @@
 -- The items of a node in a loop over the entries of the table and, in it, a loop over the terms.
 --
--- Others cite: items_so_far, items_first, items_more, items_all, items_split, added_first, added_more, added_all.
+-- Others cite: items_so_far, items_split, added_more, added_all.
 use Rattle.std.proofs.Common.{◌≡◌, ℕ, List, [], ◌∷◌, ◌++◌, map, sym, ap, ◌∙◌, append_assoc, append-nil}
 use Rattle.std.proofs.lemmas.List.{map-append}
 use Rattle.std.proofs.lemmas.List.Concat.{flat_map-append}
@@ -40,10 +40,6 @@ module _ (delta : ℕ) (seam : Seam) (terms : List Term) (done : List (ℕ × �
       ∙ ap (λ xs. contributions delta seam terms done ++ (xs ++ contributions delta seam terms rest)) (ap (map one) terms_are ∙ map-append one past (term ∷ left))
       ∙ ap (λ xs. contributions delta seam terms done ++ xs) (append_assoc (map one past) (one term ∷ map one left) (contributions delta seam terms rest))
       ∙ sym (append_assoc (contributions delta seam terms done) (map one past) (one term ∷ (map one left ++ contributions delta seam terms rest)))
-
-  -- ---- the same for the table that is made
-  pub added_first : (m : ℕ) → add_all m [] (items_so_far delta seam terms done entry []) ≡ add_all m [] (contributions delta seam terms done)
-  added_first m = ap (add_all m []) items_first
 
   pub added_more : (m : ℕ) (past : List Term) (term : Term) →
       add_all m [] (items_so_far delta seam terms done entry (past ++ term ∷ []))

@@ -1,6 +1,6 @@
 -- Turns and limits, from some nodes to one more: the turns that come, and whether a limit is met.
 --
--- Others cite: pairing_count_none, items_length, turns_after, within_none, within_after, wide_after, full_after.
+-- Others cite: range_more, turns_after, within_none, within_after, wide_after, full_after.
 use Rattle.std.proofs.Common.{◌≡◌, ℕ, zero, suc, ◌+◌, ◌*◌, ◌<◌, ◌≤◌, List, [], ◌∷◌, ◌++◌, map, length, take, sum_by, refl, sym, ap, subst, ◌∙◌, arith, length-append, ⊎_elim, ◌⊎◌}
 use Rattle.std.specs.List.{range_with_len}
 use Rattle.std.proofs.Math.ListN.{get_or-append}
@@ -12,10 +12,6 @@ use Rattle.arc_pairing.specs.Gluing.{Seam}
 use Rattle.frontier_laws.specs.Orders.{node_at}
 use Rattle.frontier_laws.specs.Tables.{contribution, contributions}
 use Rattle.frontier_laws.specs.Turns.{pairing_count, turns_of, open_count, IsWithinAt, IsWithin, IsWideAt, IsFullAt}
-
--- Of no node there is one pairing, the empty one.
-pub pairing_count_none : pairing_count [] ≡ 1
-pairing_count_none = refl
 
 -- Each entry and each term give one item.
 pub items_length : (delta : ℕ) (seam : Seam) (terms : List Term) (table : List (ℕ × ℕ)) → length (contributions delta seam terms table) ≡ length table * length terms

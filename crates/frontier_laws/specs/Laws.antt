@@ -2,11 +2,16 @@
 --
 --     IsOneOrder next network order     an order in which each place is what `next` names is the one that `next` gives, and
 --                                       `next` gives one for any number of steps
+--     IsFixed answers                   on each view there is one answer at the most
+--     OneOrderEach, OneLimitEach        then the network has one order of answers, and one limit at the most
+--     OpenWithLaw                       what the greedy order looks at is how many names are open with one more node
+--     OneOrderLaw, WholeOrderLaw        for every function of a view, and for every order of all nodes
 --     IsOfAll network order             the nodes in this order have the network's value, and no name is open at the end
-use Rattle.std.specs.Prelude.{◌≡◌, ℕ, List, [], length}
+use Rattle.std.specs.Prelude.{◌≡◌, ℕ, ◌<◌, List, [], ◌∷◌, ◌++◌, length}
 use Rattle.state_sums.specs.Networks.{Network, IsNetwork}
 use Rattle.state_sums.specs.StateSums.{value}
-use Rattle.frontier_laws.specs.Orders.{View, IsPartOrder, IsChosen, taken, left_after, open_names, order_by}
+use Rattle.frontier_laws.specs.Orders.{View, IsPartOrder, IsChosen, taken, left_after, open_names, open_with, order_by, view_after}
+use Rattle.frontier_laws.specs.Turns.{IsWithin, IsLimited, open_count}
 
 -- Where the next place is a function of the view, so is the order of the network.
 pub record IsOneOrder (next : View → ℕ) (network : Network) : Type 0 where
@@ -15,6 +20,30 @@ pub record IsOneOrder (next : View → ℕ) (network : Network) : Type 0 where
 
 abbrev pub OneOrderLaw : Type 0
 OneOrderLaw = (next : View → ℕ) (network : Network) → IsOneOrder next network
+
+-- On each view there is one answer at the most.
+abbrev pub IsFixed : (View → ℕ → Type 0) → Type 0
+IsFixed answers = (view : View) (place other : ℕ) → answers view place → answers view other → place ≡ other
+
+-- Then two orders of answers, of so many steps, are one.
+abbrev pub OneOrderEach : (View → ℕ → Type 0) → Type 0
+OneOrderEach answers =
+    IsFixed answers → (network : Network) (order other : List ℕ) → IsChosen answers network order → IsChosen answers network other → length order ≡ length other → order ≡ other
+
+-- And a limit is met at one step at the most: two orders of answers that end with the step that meets one are one, and an order
+-- that meets none is shorter.
+pub record IsOneLimit (network : Network) (order other : List ℕ) : Type 0 where
+  pub same : IsLimited (taken network.nodes order) → IsLimited (taken network.nodes other) → order ≡ other
+  pub none : IsLimited (taken network.nodes order) → IsWithin (taken network.nodes other) → length other < length order
+
+abbrev pub OneLimitEach : (View → ℕ → Type 0) → Type 0
+OneLimitEach answers = IsFixed answers → (network : Network) (order other : List ℕ) → IsChosen answers network order → IsChosen answers network other → IsOneLimit network order other
+
+-- What the greedy order looks at: with one more node so many names are open.
+abbrev pub OpenWithLaw : Type 0
+OpenWithLaw =
+    (network : Network) (order : List ℕ) (place : ℕ) → IsNetwork network → IsPartOrder (length network.nodes) (order ++ place ∷ []) →
+    open_with (view_after network order) place ≡ open_count (taken network.nodes (order ++ place ∷ []))
 
 -- The nodes in that order have the network's value, and no name is open.
 pub record IsOfAll (network : Network) (order : List ℕ) : Type 0 where

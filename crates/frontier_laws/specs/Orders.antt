@@ -3,12 +3,16 @@
 --
 --     node_at nodes place                the node at that place
 --     taken nodes order                  the nodes at these places, in this order
---     IsPartOrder count order            some of the places below count, each once
 --     left_after count order             the places below count that are not in the order, increasing
+--     IsPartOrder count order            some of the places below count, each once
+--     increasing names                   the names, increasing; `placed` puts one more in its place
 --     open_names nodes                   the names that stand once in the nodes, increasing
 --     View                               what a chooser sees: the network, the places left, and the open names
 --     view_after network order           what it sees when the nodes at these places are taken
+--     least_of numbers                   the least number
 --     first_least measure places         the first of the places at which the measure is least
+--     open_with view place               how many names are open when the node at that place is taken too
+--     rank_in groups group               where a group stands in a list of groups
 --     listed_of, greedy_of, given_of     the three orders: which place each of them takes next
 --     order_by next network steps        the places that an order takes in so many steps
 --     IsChosen answers network order     each place is an answer on the view of those before it
@@ -78,7 +82,8 @@ first_least measure places = slice_index (filter (λ place. measure place == lea
 abbrev pub listed_of : View → ℕ
 listed_of view = slice_index view.left 0
 
--- How many names are open when the node at that place is taken too.
+-- How many names are open when the node at that place is taken too: of the open names and its ends together, those that
+-- stand once. By the law `open_names_with` it is how many stand once in all nodes that are then taken.
 abbrev pub open_with : View → ℕ → ℕ
 open_with view place = single_count (view.names ++ (node_at view.network.nodes place).ends)
 
@@ -96,7 +101,7 @@ given_of groups view = first_least (λ place. rank_in groups (node_at view.netwo
 
 -- The places that an order takes in so many steps, where `next` tells the next place of a view.
 abbrev pub order_by : (View → ℕ) → Network → ℕ → List ℕ
-order_by next network steps = fold (λ order step. order ++ next (view_after network order) ∷ []) [] (range_with_len 0 steps)
+order_by next network steps = fold (λ order _. order ++ next (view_after network order) ∷ []) [] (range_with_len 0 steps)
 
 -- Each place of the order is an answer on the view of those before it.
 abbrev pub IsChosen : (View → ℕ → Type 0) → Network → List ℕ → Type 0

@@ -7,10 +7,12 @@
 --                                    10 for the trefoil, which is 2 + 4 + 4
 --     turns network order            the same for the nodes of a network, in that order
 --     open_count nodes               how many names are open
+--     IsWithinAt nodes k             after the first k nodes no limit is met
 --     IsWithin nodes                 after each node at most 24 names are open, with at most 262,144 pairings
 --     IsWideAt nodes ends            after the last node more than 24 names are open, and no limit was met before
+--     IsLimited nodes                one of the two
 --     IsFullAt nodes                 after the last node there are more than 262,144 pairings of at most 24 open names, and no limit was met before
-use Rattle.std.specs.Prelude.{◌≡◌, ℕ, ◌*◌, ◌<◌, ◌≤◌, List, map, length, take}
+use Rattle.std.specs.Prelude.{◌≡◌, ◌⊎◌, ℕ, ◌*◌, ◌<◌, ◌≤◌, List, map, length, take}
 use Rattle.std.specs.List.{sum_by, range_with_len}
 use Rattle.std.specs.Set.{distinct_count}
 use Rattle.std.specs.Str.{bytes_eq}
@@ -58,3 +60,7 @@ pub record IsFullAt (nodes : List Node) : Type 0 where
   pub narrow : open_count nodes ≤ 24
   pub full : 262144 < pairing_count nodes
   pub first : (k : ℕ) → k < length nodes → IsWithinAt nodes k
+
+-- After the last node a limit is met, and no step before met one.
+abbrev pub IsLimited : List Node → Type 0
+IsLimited nodes = ((ends : ℕ) × IsWideAt nodes ends) ⊎ IsFullAt nodes

@@ -1,6 +1,6 @@
 //! The laws of orders: functions with empty bodies, whose contracts are the theorems.
 
-ghost use Rattle.frontier_laws.specs.Laws.{OneOrderLaw, WholeOrderLaw};
+ghost use Rattle.frontier_laws.specs.Laws.{OneOrderLaw, OpenWithLaw, WholeOrderLaw};
 
 /// Where the next node is a function of the view, the order is a function of the network.
 pub fn one_order()
@@ -10,4 +10,9 @@ pub fn one_order()
 /// The nodes of a network in any order, each once, have its value, and leave no name open.
 pub fn whole_order()
     ensures { WholeOrderLaw }
+{}
+
+/// The greedy order counts the names that are open when a node is taken too.
+pub fn open_names_with()
+    ensures { OpenWithLaw }
 {}

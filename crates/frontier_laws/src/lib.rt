@@ -6,4 +6,4 @@
 
 mod laws;
 
-pub use laws::{one_order, whole_order};
+pub use laws::{one_order, open_names_with, whole_order};

@@ -1,25 +1,26 @@
 -- A contraction: what holds before each step, and at the end.
 --
--- Others cite: IsContractedTo, first, shown, some_left, one_more, stopped, swept, summed.
-use Rattle.std.proofs.Common.{◌≡◌, ◌≢◌, ℕ, ◌+◌, ◌*◌, ◌^◌, ◌%◌, ◌<◌, ◌≤◌, ◌==◌, List, [], ◌∷◌, ◌++◌, length, refl, sym, ap, subst, ◌∙◌, arith}
+-- Others cite: IsContractedTo, first, shown, some_left, one_more, stopped, summed.
+use Rattle.std.proofs.Common.{◌≡◌, ◌≢◌, ℕ, ◌+◌, ◌*◌, ◌^◌, ◌%◌, ◌<◌, ◌≤◌, ◌==◌, true, List, [], ◌∷◌, ◌++◌, length, refl, sym, ap, subst, ◌∙◌, arith}
 use Rattle.std.specs.List.{All, range_with_len}
 use Rattle.std.specs.Map.{lookup}
+use Rattle.std.specs.Set.{is_member}
 use Rattle.std.specs.Option.{unwrap_or}
 use Rattle.std.proofs.lemmas.List.{length-append}
 use Rattle.std.proofs.lemmas.List.Elements.{All-cons, All-nil}
 use Rattle.state_sums.specs.Networks.{Network}
 use Rattle.state_sums.specs.StateSums.{value}
 use Rattle.arc_pairing.specs.Nodes.{IsSmallNetwork}
-use Rattle.frontier_laws.specs.Orders.{View, view_after, taken, left_after, IsChosen}
+use Rattle.frontier_laws.specs.Orders.{View, view_after, taken, left_after, IsChosen, IsPartOrder}
 use Rattle.frontier_laws.proofs.ChosenOrders.{IsChosen-more, IsChosen-none}
 use Rattle.frontier_laws.proofs.OpenNames.{AreOpen-open_names}
-use Rattle.frontier_laws.proofs.OrdersPlaces.{IsPartOrder-none, left_none, order_length}
+use Rattle.frontier_laws.proofs.OrdersPlaces.{IsPartOrder-none, IsPartOrder-more, left_none, order_length}
 use Rattle.frontier_laws.proofs.OrdersTaken.{AreNodes-taken, AreFew-order, whole_value, whole_closed, shown_in_view}
 use Rattle.frontier_laws.proofs.TableEnds.{table_end_value}
 use Rattle.frontier_laws.proofs.TableSteps.{table_of_none}
 use Rattle.frontier_laws.proofs.TurnSteps.{within_none}
 use Rattle.frontier_sweep.specs.Frontiers.{Frontier, IsFrontier, IsLimitAfter}
-use Rattle.frontier_sweep.specs.Sweeps.{IsSwept, IsStopped, stopped_at}
+use Rattle.frontier_sweep.specs.Sweeps.{IsStopped, stopped_at}
 use Rattle.frontier_sweep.specs.Views.{IsView}
 use Rattle.frontier_sweep.specs.declared.step.NotGlued.{NotGlued}
 use Rattle.frontier_sweep.specs.declared.step.NotGlued.TheVariants.{Wide, Full, Memory}
@@ -72,7 +73,10 @@ module _ (answers : View → ℕ → Type 0) (m delta : ℕ) (network : Network)
       omega (arith, l, e, w, small)
 
   -- One more answer.
-  module _ (place : ℕ) (answer : answers record { network = network; left = frontier.left; names = frontier.names } place) where
+  module _ (place : ℕ) (answer : answers record { network = network; left = frontier.left; names = frontier.names } place) (in_left : is_member ◌==◌ frontier.left place ≡ true) where
+    part_more : IsPartOrder (length network.nodes) (h.order ++ place ∷ [])
+    part_more = IsPartOrder-more (length network.nodes) h.order place h.is.part (subst (λ left. is_member ◌==◌ left place ≡ true) h.is.left_are in_left)
+
     chosen_more : IsChosen answers network (h.order ++ place ∷ [])
     chosen_more = IsChosen-more answers network h.order place h.chosen (subst (λ view. answers view place) (sym view_is) answer)
 
@@ -84,8 +88,8 @@ module _ (answers : View → ℕ → Type 0) (m delta : ℕ) (network : Network)
 
     -- A limit at that answer stops the contraction.
     pub stopped : done < length network.nodes → (step : ℕ) → step ≡ done + 1 → (reason : NotGlued) → IsLimitAfter network (h.order ++ place ∷ []) reason → IsStopped answers network (stopped_at step reason)
-    stopped small step is (Wide ends) limit = record { order = h.order ++ place ∷ []; chosen = chosen_more; last = whole_more ∙ sym is; steps = (let w = whole_more in omega (arith, w, small)); limit = limit }
-    stopped small step is Full limit = record { order = h.order ++ place ∷ []; chosen = chosen_more; last = whole_more ∙ sym is; steps = (let w = whole_more in omega (arith, w, small)); limit = limit }
+    stopped small step is (Wide ends) limit = record { order = h.order ++ place ∷ []; part = part_more; chosen = chosen_more; last = whole_more ∙ sym is; steps = (let w = whole_more in omega (arith, w, small)); limit = limit }
+    stopped small step is Full limit = record { order = h.order ++ place ∷ []; part = part_more; chosen = chosen_more; last = whole_more ∙ sym is; steps = (let w = whole_more in omega (arith, w, small)); limit = limit }
     stopped small step is Memory limit = limit
 
   -- At the end all are taken.
@@ -96,15 +100,6 @@ module _ (answers : View → ℕ → Type 0) (m delta : ℕ) (network : Network)
         empty : (xs : List ℕ) → length xs ≡ 0 → xs ≡ []
         empty [] e = refl
         empty (x ∷ xs) e = absurd (omega (arith, e))
-
-    pub swept : (before after : ℕ) → after ≡ before + count → IsSwept answers network before after
-    swept before after is = record {
-      order = h.order;
-      chosen = h.chosen;
-      whole = (let l = order_length (length network.nodes) h.order h.is.part in let e = ap (λ (left : List ℕ). length left) none_left in omega (arith, l, e));
-      within = h.is.within;
-      count = is ∙ ap (λ n. before + n) h.is.count_is;
-    }
 
     pub summed : unwrap_or (lookup (◌==◌ 0) frontier.table) 0 * delta ^ network.free_loops % m ≡ value m delta network
     summed =

@@ -1,6 +1,6 @@
 -- One step of a frontier: what it asks, where it stops, and what it leaves.
 --
--- Others cite: IsTaking, place_in_network, taking, range_push, ready, limit, next_frontier.
+-- Others cite: place_in_network, taking, range_push, ready, limit, next_frontier.
 use Rattle.std.proofs.Common.{◌≡◌, ℕ, suc, ◌+◌, ◌*◌, ◌<◌, ◌≤◌, ◌==◌, true, List, [], ◌∷◌, ◌++◌, map, take, take_all, length, slice_index, get_or, sym, ap, subst, ◌∙◌, arith}
 use Rattle.std.specs.List.{All, remove, range_with_len}
 use Rattle.std.specs.List.Sorted.{IsStrictlyIncreasing}

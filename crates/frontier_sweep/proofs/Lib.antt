@@ -1,4 +1,5 @@
 pub mod Entries
+pub mod Remainders
 pub mod StepLemmas
 pub mod FrontierLemmas
 pub mod Contractions

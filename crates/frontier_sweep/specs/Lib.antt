@@ -1,6 +1,7 @@
 pub mod Views
 pub mod Choices
 pub mod Next
+pub mod NextLeft
 pub mod LoopPowers
 pub mod Steps
 pub mod NotGluedNodes

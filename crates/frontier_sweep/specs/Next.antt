@@ -1,11 +1,8 @@
--- Which node an order names next, and that this is a node that is left.
+-- Which node an order names next.
 --
 --     next_of order view     the node that the order names on the view
-use Rattle.std.proofs.Common.{◌≡◌, ◌≢◌, ◌==◌, true, ℕ, List, [], ◌∷◌, refl, ap, ◌∙◌, slice_index, arith}
-use Rattle.std.specs.Set.{is_member}
-use Rattle.graph_parts.proofs.Ends.{is_member-get_or}
-use Rattle.frontier_laws.specs.Orders.{View, node_at, open_with, rank_in, listed_of, greedy_of, given_of}
-use Rattle.frontier_laws.proofs.FirstLeast.{first_least-among}
+use Rattle.std.specs.Prelude.{ℕ}
+use Rattle.frontier_laws.specs.Orders.{View, listed_of, greedy_of, given_of}
 use Rattle.frontier_sweep.specs.declared.order.Order.{Order}
 use Rattle.frontier_sweep.specs.declared.order.Order.TheVariants.{Listed, Greedy, Given}
 
@@ -14,16 +11,3 @@ abbrev pub next_of : Order → View → ℕ
 next_of Listed view = listed_of view
 next_of Greedy view = greedy_of view
 next_of (Given groups) view = given_of groups.items view
-
-first-among : (places : List ℕ) → places ≢ [] → is_member ◌==◌ places (slice_index places 0) ≡ true
-first-among [] some = absurd (some refl)
-first-among (place ∷ places) some = is_member-get_or (place ∷ places) 0 (omega arith)
-
-next-left : (order : Order) (view : View) → view.left ≢ [] → is_member ◌==◌ view.left (next_of order view) ≡ true
-next-left Listed view some = first-among view.left some
-next-left Greedy view some = first_least-among (open_with view) view.left some
-next-left (Given groups) view some = first_least-among (λ place. rank_in groups.items (node_at view.network.nodes place).group) view.left some
-
--- An answer of an order is a node that is left.
-pub next_of-left : (order : Order) (view : View) (node : ℕ) → view.left ≢ [] → node ≡ next_of order view → is_member ◌==◌ view.left node ≡ true
-next_of-left order view node some answer = ap (is_member ◌==◌ view.left) answer ∙ next-left order view some

@@ -1,12 +1,12 @@
--- What a step asks of the terms that it glues, and where its table overflows.
+-- What a step asks of the terms that it glues, and where its table overflows. (This project's own.)
 --
 --     FitsSeam m seam term        the term pairs the ends of the node, and its weight is below m
---     OverflowsIn m delta seam terms table    one of the entries does so, when the terms are glued to it
---     IsSeamOf names ends seam    the seam of open names and the ends of a node
---     IsReady m names node table count       the node can be glued to the table
---     OverflowsAt m delta names node table   an entry does so with such a seam
+--     Overflows m table items     one of the items, added behind those before it, has a new code where there are 262,144
+--     OverflowsIn m delta seam terms table   the terms glued to one of the entries of the table overflow the next one
 --     Spells points code          the code spells a pairing of that many points
---     Overflows m table items     one of the items, added behind those before it, is a new code, and there are 262,144
+--     IsSeamOf names ends seam    the seam of open names and the ends of a node
+--     OverflowsAt m delta names node table   one of the entries does so, with such a seam
+--     IsReady m names node table count       the node can be glued to the table
 use Rattle.std.specs.Prelude.{◌≡◌, ℕ, ◌<◌, ◌≤◌, ◌==◌, false, List, [], ◌++◌, ◌^◌, length, map, take, get_or}
 use Rattle.std.specs.List.{All}
 use Rattle.std.specs.List.Sorted.{IsStrictlyIncreasing}

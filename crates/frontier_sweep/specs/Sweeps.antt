@@ -6,9 +6,10 @@
 --     IsWideStep answers network step ends      at that step, the last of some such order, more than 24 names are open
 --     IsFullStep answers network step           at that step there are more than 262,144 pairings
 --     IsStopped answers network fault           the same, by the fault
+--     stopped_at step reason                    the fault of a step that was not taken for that reason
 use Rattle.std.specs.Prelude.{◌≡◌, ℕ, ◌+◌, ◌≤◌, List, length, ⊤}
 use Rattle.state_sums.specs.Networks.{Network}
-use Rattle.frontier_laws.specs.Orders.{View, taken, IsChosen}
+use Rattle.frontier_laws.specs.Orders.{View, taken, IsChosen, IsPartOrder}
 use Rattle.frontier_laws.specs.Turns.{turns, IsWithin, IsWideAt, IsFullAt}
 use Rattle.frontier_sweep.specs.declared.step.NotGlued.{NotGlued}
 use Rattle.frontier_sweep.specs.declared.step.NotGlued.TheVariants as reasons
@@ -18,6 +19,7 @@ use Rattle.frontier_sweep.specs.declared.fault.SweepFault.TheVariants.{Wide, Tab
 -- All nodes were taken, in an order of answers; no step meets a limit; the count has grown by the turns of that order.
 pub record IsSwept (answers : View → ℕ → Type 0) (network : Network) (before after : ℕ) : Type 0 where
   pub order : List ℕ
+  pub part : IsPartOrder (length network.nodes) order
   pub chosen : IsChosen answers network order
   pub whole : length order ≡ length network.nodes
   pub within : IsWithin (taken network.nodes order)
@@ -26,6 +28,7 @@ pub record IsSwept (answers : View → ℕ → Type 0) (network : Network) (befo
 -- After so many steps, each an answer, more than 24 names are open, for the first time that a limit is met.
 pub record IsWideStep (answers : View → ℕ → Type 0) (network : Network) (step ends : ℕ) : Type 0 where
   pub order : List ℕ
+  pub part : IsPartOrder (length network.nodes) order
   pub chosen : IsChosen answers network order
   pub last : length order ≡ step
   pub steps : length order ≤ length network.nodes
@@ -34,6 +37,7 @@ pub record IsWideStep (answers : View → ℕ → Type 0) (network : Network) (s
 -- After so many steps, each an answer, there are more than 262,144 pairings, for the first time that a limit is met.
 pub record IsFullStep (answers : View → ℕ → Type 0) (network : Network) (step : ℕ) : Type 0 where
   pub order : List ℕ
+  pub part : IsPartOrder (length network.nodes) order
   pub chosen : IsChosen answers network order
   pub last : length order ≡ step
   pub steps : length order ≤ length network.nodes

@@ -31,8 +31,9 @@ fn stopped_at(step: u32, reason: NotGlued) -> SweepFault
 /// pairing of the open names that arises.
 ///
 /// All weights are below the modulus, and the count is below 2^120. It grows by the turns of that order:
-/// one for each kept pairing and each term. `Wide` and `Table` are the limits that a step can meet, of
-/// 24 open names and 262,144 pairings; then the count stays. `Memory` is want of memory.
+/// one for each kept pairing and each term; free loops add none. `Wide` and `Table` come where a step of
+/// that order is the first to meet a limit, more than 24 open names, or else more than 262,144 pairings;
+/// then the count stays. `Memory` is want of memory.
 pub fn contract<C: Choose>(
     alloc: Global,
     params: &Params,

@@ -5,6 +5,7 @@ mod chooser;
 mod contraction;
 mod fault;
 mod frontier;
+mod laws;
 mod order;
 mod powers;
 mod step;
@@ -14,5 +15,9 @@ mod view;
 pub use chooser::{Choose, Chooser, Kept};
 pub use contraction::contract;
 pub use fault::SweepFault;
+pub use laws::one_order_each;
 pub use order::{Order, given_next, greedy_next, listed_next};
 pub use view::View;
+
+#[cfg(test)]
+mod tests;

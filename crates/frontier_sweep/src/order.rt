@@ -4,7 +4,8 @@ ghost use Rattle.std.specs.Prelude.{not, ◌&&◌, ◌≡◌, ◌≢◌, ◌<◌
 ghost use Rattle.std.specs.List.{All, count_by, position};
 ghost use Rattle.std.specs.Set.{is_member};
 ghost use Rattle.state_sums.specs.Networks.{times_in};
-ghost use Rattle.frontier_sweep.specs.Next.{next_of, next_of-left};
+ghost use Rattle.frontier_sweep.specs.Next.{next_of};
+ghost use Rattle.frontier_sweep.specs.NextLeft.{next_of-left};
 ghost use Rattle.frontier_laws.specs.Orders.{node_at, first_least, listed_of, greedy_of, given_of, open_with, rank_in};
 
 use crate::chooser::Choose;
@@ -89,7 +90,8 @@ fn rank_of(view: &View, order: &[u32], place: u32) -> u64
     rank_in(order, view.network().nodes()[place as usize].group())
 }
 
-/// The order in which the nodes are listed: the least place left. A node is left. It takes no memory.
+/// The order in which the nodes are listed: the least place left, from 0 on. A node is left. It takes no
+/// memory. (This project's own, as the other orders.)
 pub fn listed_next(view: &View) -> u32
     requires { view.now.left ≢ [] }
     ensures next { result ≡ listed_of view.now }
@@ -119,8 +121,8 @@ pub fn given_next(view: &View, order: &[u32]) -> u32
     first_least(view.left(), |place| rank_of(view, order, place))
 }
 
-/// One of the three orders, as what chooses.
-#[derive(Drop)]
+/// One of the three orders, as what chooses (this project's own).
+#[derive(Drop, Debug)]
 pub enum Order {
     /// The nodes as they are listed.
     Listed,
@@ -135,7 +137,7 @@ impl Choose for Order {
 
     ghost chooses = { λ order. ⊤ };
 
-    ghost names_left = { λ order view node chooses left answer. next_of-left order view node left answer };
+    ghost names_left = { λ order view node chooses is_view left answer. next_of-left order view node left answer };
 
     fn choose(&self, view: &View) -> u32 {
         match self {

@@ -5,8 +5,8 @@ ghost use Rattle.std.specs.Prelude.{◌≡◌, ◌<◌, ◌≤◌, ◌*◌, ◌%
 use residue_ring::Ring;
 use std::marker::Model;
 
-/// The ring, and the powers of delta that a gluing can need: a node has at most 24 ends, so that at most
-/// 24 loops close.
+/// The ring, and the powers of delta that a gluing can need: no more than 24 loops close at the at most 24
+/// ends of a node.
 ///
 /// Contracts see the modulus and delta.
 #[derive(Drop)]

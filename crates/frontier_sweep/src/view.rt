@@ -6,7 +6,8 @@ ghost use Rattle.frontier_sweep.specs.Views.{IsView};
 use arc_pairing::Network;
 use std::marker::Model;
 
-/// What a chooser sees before each step: the network, the nodes still left, and the open names.
+/// What a chooser sees before each step: the network, the nodes still left, and the open names (this
+/// project's own).
 ///
 /// Contracts see a view as these three values. Its type keeps that each node left is below the number
 /// of nodes, and that its names are those that stand once in the nodes that aren't left.

@@ -1,12 +1,14 @@
-use Rattle.std.proofs.Common.{◌+◌, ◌*◌, ◌^◌, ◌%◌, ◌<◌, ◌≤◌, ◌==◌, List, [], ◌∷◌, length, refl, sym, ap, subst, ◌∙◌}
+use Rattle.std.proofs.Common.{◌+◌, ◌*◌, ◌^◌, ◌%◌, ◌<◌, ◌≤◌, ◌==◌, ◌≡◌, true, List, [], ◌∷◌, length, refl, sym, ap, subst, ◌∙◌}
 use Rattle.std.specs.List.{range_with_len}
 use Rattle.std.specs.Map.{lookup}
 use Rattle.std.specs.Option.{unwrap_or}
+use Rattle.std.specs.Set.{is_member}
 use Rattle.state_sums.specs.Networks.{Node}
 use Rattle.state_sums.specs.StateSums.{value}
 use Rattle.frontier_laws.specs.Orders.{View}
 use Rattle.frontier_sweep.specs.LoopPowers.{LoopPowers}
 use Rattle.frontier_sweep.specs.Sweeps.{IsStopped}
+use Rattle.frontier_sweep.specs.Views.{IsView}
 use Rattle.frontier_sweep.proofs.Contractions.{IsContractedTo, first, shown, some_left, one_more, stopped, summed}
 use Rattle.frontier_sweep.proofs.contraction.contract.Goals as goal
 
@@ -25,8 +27,12 @@ pub view-requires : goal.view-requires
 view-requires g c =
     shown (g.C.Choose.answers c.args.chooser.now) c.of-powers.result.modulus c.of-powers.result.delta c.args.network.now c.loop-taken.taken c.loop-taken.frontier c.loop-taken.own c.loop-taken.invariant
 
-pub name-place-requires : goal.name-place-requires
-name-place-requires g c none =
+pub name-place-requires-clause-view : goal.name-place-requires-clause-view
+name-place-requires-clause-view g c =
+    subst IsView (sym c.view.ensures) (shown (g.C.Choose.answers c.args.chooser.now) c.of-powers.result.modulus c.of-powers.result.delta c.args.network.now c.loop-taken.taken c.loop-taken.frontier c.loop-taken.own c.loop-taken.invariant)
+
+pub name-place-requires-clause-left : goal.name-place-requires-clause-left
+name-place-requires-clause-left g c none =
     let small = subst (λ (nodes : List Node). c.loop-taken.taken < length nodes) c.nodes-taken-end.ensures.value c.loop-taken-test.true in
     some_left (g.C.Choose.answers c.args.chooser.now) c.of-powers.result.modulus c.of-powers.result.delta c.args.network.now c.loop-taken.taken c.loop-taken.frontier c.loop-taken.own c.loop-taken.invariant small
     (ap (λ (view : View). view.left) (sym c.view.ensures) ∙ none)
@@ -39,10 +45,11 @@ returns-in-Err-advance-clause-stopped g c =
     let network = c.args.network.now in
     let h = c.loop-taken.invariant in
     let answer = subst (λ (view : View). answers view c.name-place.result) c.view.ensures c.name-place.ensures.answer in
+    let left = subst (λ (view : View). is_member ◌==◌ view.left c.name-place.result ≡ true) c.view.ensures c.name-place.ensures.left in
     let limit = (c.in-Err-advance.ensures {u = tt}).refused h.order h.is in
     let small = subst (λ (nodes : List Node). c.loop-taken.taken < length nodes) c.nodes-taken-end.ensures.value c.loop-taken-test.true in
     subst (IsStopped answers network) (sym c.stopped_at.ensures)
-    (stopped answers m delta network c.loop-taken.taken c.loop-taken.frontier c.loop-taken.own h c.name-place.result answer small (c.loop-taken.taken + 1) refl c.in-Err-advance.reason limit)
+    (stopped answers m delta network c.loop-taken.taken c.loop-taken.frontier c.loop-taken.own h c.name-place.result answer left small (c.loop-taken.taken + 1) refl c.in-Err-advance.reason limit)
 
 pub loop-taken-preserved : goal.loop-taken-preserved
 loop-taken-preserved g c =
@@ -52,8 +59,9 @@ loop-taken-preserved g c =
     let network = c.args.network.now in
     let h = c.loop-taken.invariant in
     let answer = subst (λ (view : View). answers view c.name-place.result) c.view.ensures c.name-place.ensures.answer in
+    let left = subst (λ (view : View). is_member ◌==◌ view.left c.name-place.result ≡ true) c.view.ensures c.name-place.ensures.left in
     let next = (c.in-Ok-advance.ensures {u = tt}).after h.order h.is in
-    one_more answers m delta network c.loop-taken.taken c.loop-taken.frontier c.loop-taken.own h c.name-place.result answer c.advance.new.self c.advance.new.turns next
+    one_more answers m delta network c.loop-taken.taken c.loop-taken.frontier c.loop-taken.own h c.name-place.result answer left c.advance.new.self c.advance.new.turns next
 
 pub returns-clause-value : goal.returns-clause-value
 returns-clause-value g c =

@@ -1,6 +1,6 @@
 use Rattle.std.proofs.Common.{◌<◌, ◌^◌, ◌%◌, sym, subst, ◌∙◌, arith}
 use Rattle.std.proofs.lemmas.List.{length-set}
-use Rattle.frontier_sweep.proofs.Entries.{residue_of_power, filled_more}
+use Rattle.frontier_sweep.proofs.Remainders.{residue_of_power, filled_more}
 use Rattle.frontier_sweep.proofs.powers.LoopPowers.of.Goals as goal
 
 pub loop-k-preserved : goal.loop-k-preserved

@@ -1,6 +1,6 @@
 use Rattle.std.proofs.Common.{◌^◌, ◌*◌, ◌%◌, slice_index, ap, ◌∙◌}
 use Rattle.frontier_sweep.specs.LoopPowers.{LoopPowers}
-use Rattle.frontier_sweep.proofs.Entries.{scaled_products}
+use Rattle.frontier_sweep.proofs.Remainders.{scaled_products}
 use Rattle.frontier_sweep.proofs.powers.LoopPowers.scaled.Goals as goal
 
 pub returns-clause-value : goal.returns-clause-value

@@ -1,6 +1,6 @@
 use Rattle.std.proofs.Common.{◌^◌, ◌*◌, ◌%◌, ap, ◌∙◌}
 use Rattle.frontier_sweep.specs.LoopPowers.{LoopPowers}
-use Rattle.frontier_sweep.proofs.Entries.{product_of_remainders}
+use Rattle.frontier_sweep.proofs.Remainders.{product_of_remainders}
 use Rattle.frontier_sweep.proofs.powers.LoopPowers.with_free_loops.Goals as goal
 
 pub returns : goal.returns

@@ -7,7 +7,8 @@ use Rattle.indexmap.specs.IndexMap.{insert_entry}
 use Rattle.std.specs.Option.{option_copied_mut}
 use Rattle.frontier_laws.specs.Tables.{add_in}
 use Rattle.frontier_laws.proofs.Tables.{add_in_present}
-use Rattle.frontier_sweep.proofs.Entries.{found_below, none_found, inserted, residue_of_sum}
+use Rattle.frontier_sweep.proofs.Entries.{found_below, none_found, inserted}
+use Rattle.frontier_sweep.proofs.Remainders.{residue_of_sum}
 use Rattle.frontier_sweep.proofs.table.Table.add.Goals as goal
 
 pub add-requires-clause-x_below : goal.add-requires-clause-x_below
