@@ -1,7 +1,7 @@
 -- The product of pairings is associative, with its loops: on both sides the product stands in for a stack, and what arises is
 -- the stack of three, with its edges in another order.
 --
--- Others cite: product_assoc, loops_assoc, other_alike, swap_front.
+-- Others cite: product_assoc, loops_assoc.
 use Rattle.std.proofs.Common.{◌≡◌, ℕ, ◌+◌, ◌-◌, ◌<◌, ◌≤◌, true, false, not, nat_lt, ◌&&◌, ◌||◌, ◌==◌, if◌then◌else◌, List, [], ◌∷◌, ◌++◌, map, refl, sym, ap, ap₂, ◌∙◌, arith, Contains, ⊎_elim}
 use Rattle.std.proofs.lemmas.List.Elements.{Contains-append_left, Contains-append_right, Contains-append_cases}
 use Rattle.std.proofs.lemmas.Bool.{cases_Bool, or_left, or_right, or_cases}

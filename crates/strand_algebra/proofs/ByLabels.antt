@@ -1,6 +1,6 @@
 -- Products, loops and closures by parts are those by labels, so what is proved by labels holds for the definitions.
 --
--- Others cite: IsPairingOf-from_points, IsPairingOn-from_points, product-labels, product_loops-labels, closure_loops-labels.
+-- Others cite: IsPairingOf-from_points, IsPairingOn-from_points, pair_edges-pairs, chosen, product-labels, product_loops-labels, closure_loops-labels.
 use Rattle.std.proofs.Common.{◌≡◌, ◌≢◌, ℕ, ◌+◌, ◌-◌, ◌<◌, ◌≤◌, true, ◌||◌, ◌==◌, nat_lt, List, ◌++◌, map, length, length-append, slice_index, zip, refl, sym, ap, ◌∙◌, arith, ⊎_elim}
 use Rattle.std.specs.List.{range_with_len, AllPass}
 use Rattle.std.specs.Set.{is_member}

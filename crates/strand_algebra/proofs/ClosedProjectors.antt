@@ -1,7 +1,7 @@
 -- The closure of the projector on n + 1 strands is Delta (n + 1): closing passes through the recursion by the trace, by one
 -- strand more, and by the hook that closes a strand.
 --
--- Others cite: own_square, projector_closed.
+-- Others cite: total-exchange, own_square, projector_closed.
 use Rattle.std.proofs.Common.{◌≡◌, ℕ, zero, suc, ◌+◌, ◌<◌, List, [], ◌∷◌, ℤ, pos, ◌+ℤ◌, ◌*ℤ◌, neg_ℤ, refl, sym, ap, ap₂, ◌∙◌, arith}
 use Rattle.ring_identities.proofs.Congruences.{congruent_refl, congruent_eq, congruent_trans, congruent_sym, congruent_plus, congruent_times}
 use Rattle.ring_identities.proofs.Identities.{reads, by_ring}

@@ -4,7 +4,7 @@
 --     signed x            the terms of x as a formal sum over the whole numbers
 --     AreNoncrossingTerms n x    each pairing of x is a noncrossing one of 2n points
 --
--- Others cite: signed, AreNoncrossingTerms, coefficient_total, collected_alike, IsElement-collected, noncrossing_element, same_elements, coefficient_below.
+-- Others cite: signed, AreNoncrossingTerms, only_at, picked, coefficient_total, bytes_eq-same, less_differs, differs_less, collected_alike, IsElement-collected, noncrossing_element, same_elements, coefficient_below.
 use Rattle.std.proofs.Common.{◌≡◌, ℕ, zero, suc, ◌+◌, ◌%◌, ◌<◌, Bool, true, false, cond, if◌then◌else◌, List, [], ◌∷◌, map, length, get_or, drop, ℤ, pos, ◌+ℤ◌, ◌*ℤ◌, refl, sym, ap, ap₂, ◌∙◌, arith, subst, All, Contains, Ordering, Less, Equal, Greater, ⊎_elim, mod-lt}
 use Rattle.std.specs.List.{AllByRecursion}
 use Rattle.std.specs.List.Sorted.{IsStrictlySortedBy}

@@ -1,7 +1,7 @@
 -- In any surroundings the product stands in for the stack: outer names are told alike, and as many parts go as the product
 -- closes loops. The names may be others, one to one.
 --
--- Others cite: named, contract_agree, contract_count, and the lemmas on names and ends.
+-- Others cite: named, below_range, member_map, in_map, out_map, label_count-members, EndsAre-range, EndsAre-named, EndsAre-stack, Agree-names, label_count-names, map-named, es, ps, names, open_names, contract_agree, contract_count.
 use Rattle.std.proofs.Common.{◌≡◌, ℕ, zero, suc, ◌+◌, ◌-◌, ◌<◌, ◌≤◌, ◌≢◌, Bool, true, false, not, nat_lt, ◌||◌, ◌==◌, List, [], ◌∷◌, ◌++◌, map, length, slice_index, zip, refl, sym, ap, ap₂, ◌∙◌, arith, ⊎_elim}
 use Rattle.std.proofs.lemmas.List.Elements.{All-map}
 use Rattle.std.proofs.lemmas.Bool.{cases_Bool, eqb-true, or_left, or_right, or_cases}

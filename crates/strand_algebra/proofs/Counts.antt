@@ -1,6 +1,4 @@
 -- There are at most 1,430 noncrossing pairings of the points of at most eight strands.
---
--- Others cite: noncrossing_count.
 use Rattle.std.proofs.Common.{◌≡◌, ℕ, ◌≤◌, nat_le, true, length, refl, arith}
 use Rattle.std.specs.List.{range_with_len, list_all}
 use Rattle.std.proofs.lemmas.Bool.Decides.{nat_tests}

@@ -1,7 +1,7 @@
 -- Points exchanged between bottom and top: products turn about, and loops stay. Top for bottom is one such exchange, half a
 -- turn another.
 --
--- Others cite: IsExchange, mirror_exchange, half_exchange, turned_at, turned_twice, product_turned, loops_turned.
+-- Others cite: IsExchange, mirror_exchange, half_exchange, turned_at, IsPairingOf-turned, turned_twice, product_turned, loops_turned.
 use Rattle.std.proofs.Common.{◌≡◌, ℕ, ◌+◌, ◌-◌, ◌<◌, ◌≤◌, true, false, cond, nat_lt, ◌==◌, if◌then◌else◌, List, ◌++◌, map, slice_index, refl, sym, ap, ap₂, ◌∙◌, arith, All, ⊎_elim}
 use Rattle.std.proofs.lemmas.List.Elements.{All-append, All-map}
 use Rattle.std.proofs.lemmas.Bool.{cases_Bool, eqb-true, eq-eqb, or_right}

@@ -3,7 +3,7 @@
 --
 --     glued_name n x      the name in the gluing of a point of the stack
 --
--- Others cite: glued_product, glued_closure, strand_seam.
+-- Others cite: above_name, glued_name, left_at, left_length, glued_product, glued_closure.
 use Rattle.std.proofs.Common.{◌≡◌, ℕ, ◌+◌, ◌-◌, ◌<◌, ◌≤◌, true, false, ◌==◌, nat_lt, if◌then◌else◌, List, [], ◌++◌, map, length, length-append, slice_index, zip, refl, sym, ap, ap₂, ◌∙◌, arith, All, ⊎_elim}
 use Rattle.std.specs.List.{range_with_len, AllPass}
 use Rattle.std.specs.Set.{is_member, distinct_count}

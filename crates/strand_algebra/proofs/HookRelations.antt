@@ -1,7 +1,7 @@
 -- The hooks of at most eight strands have the relations of Temperley and Lieb, by the tests of HookTests. Hooks are counted from
 -- 0 here: hook i has i strands on its left.
 --
--- Others cite: hooked_at, IsPairingOf-hooked, hooks, place, AreHooks-hooks.
+-- Others cite: hooked_at, IsPairingOf-hooked, at_range, place, hooks, AreHooks-hooks.
 use Rattle.std.proofs.Common.{◌≡◌, ℕ, suc, ◌+◌, ◌-◌, ◌<◌, ◌≤◌, ◌≢◌, min, Bool, true, ◌&&◌, ◌==◌, List, [], ◌∷◌, slice_index, ℤ, pos, ◌+ℤ◌, ◌*ℤ◌, refl, sym, ap, ap₂, ◌∙◌, arith}
 use Rattle.std.specs.List.{range_with_len, list_all}
 use Rattle.std.specs.Str.{bytes_eq}

@@ -3,7 +3,7 @@
 --
 --     Matches inside l m       m exchanges the names inside by pairs, and the labels l tell exactly these pairs
 --
--- Others cite: Matches, cut, Matches-cut, Matches-same, Matches-pairs, Matches-partner.
+-- Others cite: Matches, cut, without, both_first, both_second, Matches-cut, Matches-same, Matches-pairs, Matches-partner.
 use Rattle.std.proofs.Common.{◌≡◌, ℕ, Bool, true, false, not, nat_lt, ◌&&◌, ◌||◌, ◌==◌, if◌then◌else◌, List, sym, ap, ◌∙◌, arith, All, Contains}
 use Rattle.std.proofs.lemmas.List.Elements.{All-weaker}
 use Rattle.std.proofs.lemmas.Bool.Decides.{nat_tests}

@@ -1,7 +1,5 @@
 -- Collecting a formal sum term by term: one more term adds its weight to the coefficient of its pairing, modulo m, and leaves
 -- the others as they are. The place of a pairing in the list of noncrossing pairings tells it.
---
--- Others cite: coefficient-append, collected_none, collected_at, collected_more, placed.
 use Rattle.std.proofs.Common.{◌≡◌, ◌≢◌, ℕ, zero, suc, ◌+◌, ◌%◌, ◌<◌, nat_lt, ◌==◌, cond, false, List, [], ◌∷◌, ◌++◌, map, length, get_or, refl, sym, ap, ◌∙◌, arith, ⊎_elim, get_or-set_same, get_or-set_other, mod-eq_of_lt}
 use Rattle.std.specs.Cmp.Lexicographic.{slice_cmp}
 use Rattle.std.specs.Ordering.{nat_cmp}

@@ -1,4 +1,6 @@
 -- The same algebra with the factors exchanged: what holds of products from the left holds from the right.
+--
+-- Others cite: opposite.
 use Rattle.std.proofs.Common.{ℕ, suc, ℤ, neg_ℤ}
 use Rattle.ring_identities.proofs.Congruences.{congruent_refl}
 use Rattle.strand_algebra.proofs.Algebras.{Algebra, AreHooks, AreProjectors}

@@ -1,6 +1,6 @@
 -- The formal sums of pairings are an algebra up to being alike: each law is an equation of totals.
 --
--- Others cite: Element, pairings, times_alike, assoc_alike, unit_alike, alike_unit, plus_same, by_same.
+-- Others cite: Element, AreTerms-scale, AreTerms-multiply, times_alike, assoc_alike, unit_alike, alike_unit, plus_same, by_same, pairings.
 use Rattle.std.proofs.Common.{◌≡◌, ℕ, ◌+◌, List, [], ◌∷◌, map, ℤ, pos, ◌+ℤ◌, ◌*ℤ◌, refl, sym, ap, ap₂, ◌∙◌}
 use Rattle.ring_identities.proofs.Congruences.{congruent_refl, congruent_plus, congruent_times, congruent_eq, congruent_sym, congruent_trans}
 use Rattle.ring_identities.proofs.Identities.{reads, by_ring}

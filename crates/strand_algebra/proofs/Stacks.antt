@@ -1,7 +1,7 @@
 -- The product of two pairings is a pairing, and tells the outer points that lie in one part: the labels of both tell their
 -- pairs, and each seam joins two of these.
 --
--- Others cite: Matches-product, IsPairingOf-product, and the lemmas on numbers in a row.
+-- Others cite: All-range, Contains-range, is_member-range, is_open, one_more, open_up, open_down, open_apart, partner_in, All-pairs, Contains-pairs, Matches-two, stack_label, inner, or_second, outer_below, outer_open, outer_inner, inner_outer, Matches-outer, not_below, below_is, is_below, Matches-product, IsPairingOf-product.
 use Rattle.std.proofs.Common.{◌≡◌, ℕ, zero, suc, ◌+◌, ◌-◌, ◌<◌, ◌≤◌, ◌≢◌, Bool, true, false, nat_lt, nat_le, ◌&&◌, ◌||◌, ◌==◌, if◌then◌else◌, List, [], ◌∷◌, ◌++◌, map, length, slice_index, sym, ap, ap₂, ◌∙◌, arith, All, Contains, append_assoc, ⊎_elim}
 use Rattle.std.proofs.lemmas.List.Elements.{All-nil, All-cons, All-append, All-map, All-head, All-tail, Contains-append_left, Contains-append_right}
 use Rattle.std.proofs.lemmas.Bool.{cases_Bool, eqb-true}

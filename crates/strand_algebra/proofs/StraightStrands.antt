@@ -1,7 +1,7 @@
 -- A product is the pairing whose points the stack joins, so it is enough to show one pairing joined; and straight strands
 -- change nothing on either side and close no loop.
 --
--- Others cite: same_list, product_is, loops_none, the edges of the stack, and the laws of straight strands.
+-- Others cite: same_list, product_is, low_edge, high_edge, seam_edge, straight_at, IsPairingOf-straight, straight_product, straight_loops, product_straight, loops_straight.
 use Rattle.std.proofs.Common.{◌≡◌, ℕ, ◌+◌, ◌-◌, ◌<◌, ◌≤◌, ◌≢◌, true, nat_lt, ◌||◌, ◌==◌, List, ◌++◌, map, length, slice_index, refl, sym, ap, ◌∙◌, arith, ⊎_elim}
 use Rattle.std.proofs.lemmas.List.Elements.{All-map, Contains-append_left, Contains-append_right}
 use Rattle.std.proofs.lemmas.Bool.{cases_Bool, eq-eqb}

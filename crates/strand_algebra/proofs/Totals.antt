@@ -2,7 +2,7 @@
 --
 --     within n d w p q       the worth of q behind p: delta for each loop, times the worth of the product
 --
--- Others cite: all of it.
+-- Others cite: AreTerms, AreTerms-append, total-append, total-scale, total-times, total-plus, total-nothing, total_same, total_congruent, within, total-multiply, power-add.
 use Rattle.std.proofs.Common.{◌≡◌, ℕ, zero, suc, ◌+◌, List, [], ◌∷◌, ◌++◌, map, ℤ, pos, ◌+ℤ◌, ◌*ℤ◌, refl, ap, ap₂, ◌∙◌, arith}
 use Rattle.ring_identities.proofs.Congruences.{congruent_refl, congruent_plus, congruent_times}
 use Rattle.ring_identities.proofs.Identities.{reads, by_ring}

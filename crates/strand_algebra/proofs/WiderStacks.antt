@@ -1,7 +1,7 @@
 -- One more strand on the right keeps products and loops: names of the stack are names of the wider stack, whose new strand is
 -- joined through. What the wider stack joins is told by a label of its names that each of its edges keeps.
 --
--- Others cite: by_points, wide_old, wide_new, wide_next, IsPairingOf-widened, product_widened, loops_widened.
+-- Others cite: moved_below, wide_old, wide_new, wide_next, by_points, IsPairingOf-widened, label_count-like, product_widened, loops_widened.
 use Rattle.std.proofs.Common.{◌≡◌, ℕ, suc, ◌+◌, ◌-◌, ◌<◌, ◌≤◌, ◌≢◌, Bool, true, false, cond, nat_lt, ◌||◌, ◌==◌, if◌then◌else◌, List, ◌∷◌, ◌++◌, map, length, slice_index, take, drop, length-append, refl, sym, ap, ap₂, ◌∙◌, arith, All, ⊎_elim}
 use Rattle.std.proofs.lemmas.List.Elements.{All-append, All-map}
 use Rattle.std.proofs.lemmas.Bool.{cases_Bool, eqb-true, eq-eqb, or_left, or_right, or_cases}

@@ -1,0 +1,9 @@
+pub mod ShortPairings
+pub mod NestedLists
+pub mod AddedTerms
+pub mod PairingPlaces
+pub mod GluedStacks
+pub mod StrandSeams
+pub mod TermLoops
+pub mod Rows
+pub mod GluedClosures

@@ -1,0 +1,16 @@
+use Rattle.std.proofs.Common.{◌≡◌, ◌+◌, [], ◌∷◌, ◌++◌, length, sym, ap, ◌∙◌, arith}
+use Rattle.std.specs.List.{range_with_len}
+use Rattle.std.proofs.lemmas.List.FromFn.{length-range_with_len}
+use Rattle.temperley_lieb.proofs.NestedLists.{range_more}
+use Rattle.temperley_lieb.proofs.stacking.names.Goals as goal
+
+pub push-requires : goal.push-requires
+push-requires c =
+    let l = ap length c.loop-name.invariant ∙ length-range_with_len 0 c.loop-name.name in
+    (omega arith, omega (arith, l))
+
+pub loop-name-preserved : goal.loop-name-preserved
+loop-name-preserved c =
+    let k = c.loop-name.name in
+    let z : 0 + k ≡ k = omega arith in
+    c.push.ensures.items ∙ ap (λ xs. xs ++ k ∷ []) c.loop-name.invariant ∙ ap (λ i. range_with_len 0 k ++ i ∷ []) (sym z) ∙ sym (range_more 0 k)

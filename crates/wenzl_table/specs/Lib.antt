@@ -1,0 +1,3 @@
+pub mod Projectors
+pub mod Inverses
+pub mod Laws
