@@ -1,7 +1,7 @@
 -- Words and bytes come to at most one outcome.
 --
--- Others cite: outcomes_are_unique_law, completes.
-use Rattle.std.proofs.Common.{◌≡◌, ◌≢◌, ◌⊎◌, ◌<◌, ◌∙◌, inl, inr, ℕ, List, length, slice_index, true, Some, Result, Ok, Err, refl, sym, ap, subst, arith}
+-- Others cite: outcomes_are_unique_law, unread_outcome.
+use Rattle.std.proofs.Common.{◌≡◌, ◌≢◌, ◌⊎◌, ◌<◌, ◌∙◌, inl, inr, ℕ, List, length, slice_index, true, false, Some, Result, Ok, Err, refl, sym, ap, subst, arith}
 use Rattle.std.proofs.lemmas.Bool.Decides.{nat_tests}
 use Rattle.text_shapes.specs.Reach.{is_digit, is_letter}
 use Rattle.pd_reader.specs.declared.item.Item.{Item}
@@ -15,7 +15,11 @@ use Rattle.pd_reader.specs.Texts.{IsTextItem, pd_tokens}
 use Rattle.pd_reader.specs.Answers.{IsPdRefusal, StopsAtPlace, IsRefusedText}
 use Rattle.pd_reader.specs.Faults.{NamesByte, place_of, of_items}
 use Rattle.pd_reader.proofs.UniqueItems.{texts_are_unique_lem}
-use Rattle.wrt_commands.specs.Outcomes.{Opening, ended, reads, Outcome, opening, outcome_of, IsReading, IsOutcomeAt}
+use Rattle.root_quantum.specs.Parameters.{Parameters}
+use Rattle.wrt_request.specs.declared.request.Request.{Request}
+use Rattle.wrt_request.specs.declared.request.Task.{Task}
+use Rattle.wrt_request.specs.declared.request.Task.TheVariants.{Bracket, Torus}
+use Rattle.wrt_commands.specs.Outcomes.{Opening, ended, asks, Outcome, opening, outcome_of, is_about_input, reads_input, IsReading, IsInputOutcome, IsTaskOutcome, IsOutcomeAt}
 use Rattle.wrt_commands.specs.Laws.{OutcomesAreUnique}
 
 abbrev Stops : List ℕ → ℕ → Type 0
@@ -110,12 +114,29 @@ one_reading bytes (Err f) (Ok ys) h k = absurd (no_text bytes ys f k (refused_so
 one_reading bytes (Err f) (Err g) h k = ap Err (one_fault bytes f g (refused_so bytes f h.0 h.1) (refused_so bytes g k.0 k.1) h.2 k.2)
 
 -- ---- one outcome
+one_input : (p : Parameters) (request : Request) (bytes : List ℕ) (x y : Outcome) → IsInputOutcome p request bytes x → IsInputOutcome p request bytes y → x ≡ y
+one_input p request bytes x y (inl h) (inl k) = h.1 ∙ sym k.1
+one_input p request bytes x y (inl h) (inr k) = let long = h.0 in let short = k.0 in absurd (omega (arith, long, short))
+one_input p request bytes x y (inr h) (inl k) = let short = h.0 in let long = k.0 in absurd (omega (arith, long, short))
+one_input p request bytes x y (inr h) (inr k) = h.1.2 ∙ ap (outcome_of p request) (one_reading bytes h.1.0 k.1.0 h.1.1 k.1.1) ∙ sym k.1.2
+
+one_of_task : (task : Task) (p : Parameters) (request : Request) (bytes : List ℕ) (x y : Outcome) → IsTaskOutcome task p request bytes x → IsTaskOutcome task p request bytes y → x ≡ y
+one_of_task Bracket p request bytes x y h k = one_input p request bytes x y h k
+one_of_task (Torus crossings) p request bytes x y h k = h ∙ sym k
+
 one_outcome : (at : Opening) (bytes : List ℕ) (x y : Outcome) → IsOutcomeAt at bytes x → IsOutcomeAt at bytes y → x ≡ y
 one_outcome (ended refusal) bytes x y h k = h ∙ sym k
-one_outcome (reads p) bytes x y (inl h) (inl k) = h.1 ∙ sym k.1
-one_outcome (reads p) bytes x y (inl h) (inr k) = let long = h.0 in let short = k.0 in absurd (omega (arith, long, short))
-one_outcome (reads p) bytes x y (inr h) (inl k) = let short = h.0 in let long = k.0 in absurd (omega (arith, long, short))
-one_outcome (reads p) bytes x y (inr h) (inr k) = h.1.2 ∙ ap (outcome_of p) (one_reading bytes h.1.0 k.1.0 h.1.1 k.1.1) ∙ sym k.1.2
+one_outcome (asks p request) bytes x y h k = one_of_task request.task p request bytes x y h k
 
 pub outcomes_are_unique_law : OutcomesAreUnique
 outcomes_are_unique_law words bytes x y h k = one_outcome (opening words) bytes x y h k
+
+-- ---- where the input isn't read
+unread_task : (task : Task) (p : Parameters) (request : Request) (bytes other : List ℕ) (outcome : Outcome) → is_about_input task ≡ false → IsTaskOutcome task p request bytes outcome → IsTaskOutcome task p request other outcome
+unread_task Bracket p request bytes other outcome unread h = absurd (cc)
+unread_task (Torus crossings) p request bytes other outcome unread h = h
+
+-- other bytes come to the same
+pub unread_outcome : (at : Opening) (bytes other : List ℕ) (outcome : Outcome) → reads_input at ≡ false → IsOutcomeAt at bytes outcome → IsOutcomeAt at other outcome
+unread_outcome (ended refusal) bytes other outcome unread h = h
+unread_outcome (asks p request) bytes other outcome unread h = unread_task request.task p request bytes other outcome unread h

@@ -1,7 +1,21 @@
 -- Laws over the definitions alone.
-use Rattle.std.specs.Prelude.{◌≡◌, ℕ, List}
-use Rattle.wrt_commands.specs.Outcomes.{Outcome, IsOutcome}
+--
+--     OutcomesAreUnique         words and bytes come to at most one outcome
+--     ReportsBeginWithBracket   whatever the order, the residue that a report tells is the bracket
+use Rattle.std.specs.Prelude.{◌≡◌, ℕ, List, Option}
+use Rattle.root_quantum.specs.Parameters.{Parameters}
+use Rattle.pd_reader.specs.declared.item.Item.{Item}
+use Rattle.skein_network.specs.Brackets.{bracket}
+use Rattle.wrt_request.specs.declared.request.Request.{Request}
+use Rattle.wrt_commands.specs.Reports.{report_of}
+use Rattle.wrt_commands.specs.Outcomes.{Outcome, done, diagram_outcome, IsOutcome}
 
 -- words and bytes come to at most one outcome
 abbrev pub OutcomesAreUnique : Type 0
 OutcomesAreUnique = (words : List (List ℕ)) (bytes : List ℕ) (x y : Outcome) → IsOutcome words bytes x → IsOutcome words bytes y → x ≡ y
+
+-- a report that a diagram comes to, in any order, is one of its bracket
+abbrev pub ReportsBeginWithBracket : Type 0
+ReportsBeginWithBracket =
+    (p : Parameters) (request : Request) (items : List Item) (report : List ℕ) → diagram_outcome p request items ≡ done report →
+    (turns : Option ℕ) × (report ≡ report_of (bracket p items) turns)

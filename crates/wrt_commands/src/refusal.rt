@@ -1,7 +1,7 @@
 //! Why a run has no report.
 
 ghost use Rattle.std.specs.Prelude.{◌≡◌, Some};
-ghost use Rattle.wrt_commands.specs.Reports.{status_of, text_of};
+ghost use Rattle.wrt_commands.specs.Reports.{status_of, text_of, text_of_step};
 
 use crate::parameters::ParametersFault;
 use crate::status::Status;
@@ -9,10 +9,31 @@ use pd_reader::TextFault;
 use std::fmt;
 use wrt_request::WordsFault;
 
+/// A step of the sweep for a colouring, each numbered from 1.
+#[derive(Clone, Copy, Debug, PartialEq, Eq)]
+pub struct SweepStep {
+    /// The number of the colouring.
+    pub colouring: u64,
+    /// The number of the step: of nodes that are taken.
+    pub step: u32,
+}
+
+impl fmt::Display for SweepStep {
+    ghost output = { λ step. Some (text_of_step step) };
+
+    fn fmt<W: fmt::Write>(&self, f: &mut fmt::Formatter<W>) -> fmt::Result {
+        let SweepStep { colouring, step } = *self;
+        write!(f, "colouring {colouring}: step {step}")
+    }
+}
+
 /// Why a run has no report, in the order in which the reasons are looked at.
 #[derive(Clone, Copy, Debug, PartialEq, Eq)]
 pub enum Refusal {
-    /// The words are refused.
+    /// The words aren't a command line of the program's: an option is unknown, stands twice, lacks its
+    /// value or has one too many, there is no command, or help is asked for.
+    WordsRefused,
+    /// The words ask for nothing.
     Words(WordsFault),
     /// M, A and R are no parameters.
     Parameters(ParametersFault),
@@ -24,8 +45,13 @@ pub enum Refusal {
     Text(TextFault),
     /// The diagram is not planar: it has so many faces, where `wanted` are.
     NotPlanar { faces: u32, wanted: u32 },
-    /// The diagram has more than 16 crossings.
-    Crossings,
+    /// The list of the order doesn't name each item that has places once, and nothing else; `items` of
+    /// them have.
+    Order { items: u32 },
+    /// So many names are open behind that step of the sweep: more than 24.
+    Wide { step: SweepStep, ends: u32 },
+    /// There are more than 262,144 pairings of the open names behind that step of the sweep.
+    Table { step: SweepStep },
     /// A write of the report failed.
     WriteFault,
     /// Memory ran out.
@@ -38,12 +64,13 @@ impl Refusal {
         ensures { result ≡ status_of self.now }
     {
         match self {
-            Refusal::Words(_) | Refusal::Parameters(_) => Status::Words,
+            Refusal::Words(WordsFault::Memory) => Status::Memory,
+            Refusal::WordsRefused | Refusal::Words(_) | Refusal::Parameters(_) => Status::Words,
             Refusal::ReadFault => Status::ReadFault,
             Refusal::TooLong | Refusal::Text(TextFault::TooMany { .. }) => Status::Limit,
             Refusal::Text(TextFault::Memory) => Status::Memory,
-            Refusal::Text(_) | Refusal::NotPlanar { .. } => Status::Input,
-            Refusal::Crossings => Status::Limit,
+            Refusal::Text(_) | Refusal::NotPlanar { .. } | Refusal::Order { .. } => Status::Input,
+            Refusal::Wide { .. } | Refusal::Table { .. } => Status::Limit,
             Refusal::WriteFault => Status::WriteFault,
             Refusal::Memory => Status::Memory,
         }
@@ -56,14 +83,19 @@ impl fmt::Display for Refusal {
 
     fn fmt<W: fmt::Write>(&self, f: &mut fmt::Formatter<W>) -> fmt::Result {
         match self {
-            Refusal::Words(WordsFault::Refused) => write!(f, "words refused"),
-            Refusal::Words(WordsFault::Command) => write!(f, "unknown command"),
-            Refusal::Words(WordsFault::Takes(wanted)) => {
-                write!(f, "the command takes {wanted} numbers")
+            Refusal::WordsRefused => write!(f, "words refused"),
+            Refusal::Words(WordsFault::UnknownCommand) => write!(f, "unknown command"),
+            Refusal::Words(WordsFault::Takes { numbers }) => {
+                write!(f, "the command takes {numbers} numbers")
             }
-            Refusal::Words(WordsFault::Number(position)) => {
+            Refusal::Words(WordsFault::Number { position }) => {
                 write!(f, "number {position} is not a decimal number below 2^64")
             }
+            Refusal::Words(WordsFault::Option { option }) => {
+                write!(f, "option --{option} does not belong to this command")
+            }
+            Refusal::Words(WordsFault::List { option }) => write!(f, "list of --{option} refused"),
+            Refusal::Words(WordsFault::Crossings) => write!(f, "crossings are 1 to 256"),
             Refusal::Parameters(fault) => write!(f, "{fault}"),
             Refusal::ReadFault => write!(f, "read failed"),
             Refusal::TooLong => write!(f, "input is longer than 1048576 bytes"),
@@ -77,9 +109,15 @@ impl fmt::Display for Refusal {
             Refusal::NotPlanar { faces, wanted } => {
                 write!(f, "not planar: {faces} faces, {wanted} wanted")
             }
-            Refusal::Crossings => write!(f, "more than 16 crossings"),
+            Refusal::Order { items } => {
+                write!(f, "order does not name each of {items} items once")
+            }
+            Refusal::Wide { step, ends } => write!(f, "{step} has {ends} open ends"),
+            Refusal::Table { step } => write!(f, "{step} has more than 262144 pairings"),
             Refusal::WriteFault => write!(f, "write failed"),
-            Refusal::Memory | Refusal::Text(TextFault::Memory) => write!(f, "out of memory"),
+            Refusal::Memory
+            | Refusal::Words(WordsFault::Memory)
+            | Refusal::Text(TextFault::Memory) => write!(f, "out of memory"),
         }
     }
 }

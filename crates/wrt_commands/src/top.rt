@@ -1,51 +1,59 @@
 //! The top call.
 
-ghost use Rattle.std.specs.Prelude.{◌≡◌, ◌≢◌, ◌⊎◌, ◌≤◌, ℕ, List, [], Some, IfOk, OnOk, MatchResult, map, string_bytes};
+ghost use Rattle.std.specs.Prelude.{◌≡◌, ◌≢◌, ◌⊎◌, ◌≤◌, ℕ, List, Some, Err, IfOk, OnOk, MatchResult, true, false, map, string_bytes};
 ghost use Rattle.skein_io.specs.Faults.{Rose};
 ghost use Rattle.skein_io.specs.Source.{IsSuffix};
-ghost use Rattle.wrt_commands.specs.declared.refusal.Refusal.{Refusal};
+ghost use Rattle.wrt_request.specs.Requests.{IsInRange};
+ghost use Rattle.wrt_words.specs.Words.{command_line, takes_line};
 ghost use Rattle.wrt_commands.specs.declared.refusal.Refusal.TheVariants as refusals;
 ghost use Rattle.wrt_commands.specs.Reports.{status_of, fault_line};
-ghost use Rattle.wrt_commands.specs.Outcomes.{opening, ended, reads, done, refused, IsOutcome};
-ghost use Rattle.wrt_commands.specs.Runs.{IsAtEnd, IsTold, IsRefusedAs, RunsTo, Says, written};
+ghost use Rattle.wrt_commands.specs.Outcomes.{opening, ended, asks, reads_input, done, IsOutcome, IsOutcomeAt};
+ghost use Rattle.wrt_commands.specs.Runs.{IsAtEnd, IsTold, IsRefusedAs, IsRefusedAt, RunsTo, Says, written};
 
-use crate::bracket::bracket_report;
 use crate::input::read_input;
-use crate::parameters::read_parameters;
+use crate::opening::{Opened, open_words};
 use crate::refusal::Refusal;
+use crate::report::{bracket_report, torus_report};
 use crate::status::Status;
-use root_quantum::Params;
 use skein_io::{Sink, Source, Wrote, write_all};
 use std::alloc::{AllocError, Global};
-use wrt_request::{Request, read_request};
+use wrt_request::Task;
 
-/// What the words come to before the input is read: parameters, or a refusal.
-fn open_words(words: &[&str]) -> Result<Params, Refusal>
-    ensures { MatchResult result (λ params. opening (map (λ s. s.now) words.now) ≡ reads params) (λ refusal. opening (map (λ s. s.now) words.now) ≡ ended refusal) }
-{
-    match read_request(words) {
-        Ok(Request::Bracket(numbers)) => match read_parameters(&numbers) {
-            Ok(params) => Ok(params),
-            Err(fault) => Err(Refusal::Parameters(fault)),
-        },
-        Err(fault) => Err(Refusal::Words(fault)),
-    }
-}
-
-/// The report of what the words ask for, of the input that the source gives.
-fn report<S: Source>(alloc: Global, words: &[&str], source: &mut S) -> Result<String, Refusal>
-    ensures answer { (bytes : List ℕ) × IsTold (S.left source.old) bytes × MatchResult result (λ report. IsOutcome (map (λ s. s.now) words.now) bytes (done (string_bytes report)))
-        (IsRefusedAs (map (λ s. s.now) words.now) bytes) }
-    ensures end { OnOk result (IsAtEnd (S.left source.old) (S.left source.new)) }
+/// The report of what is asked for, of the input that the source gives or of a diagram of its own.
+fn task_report<S: Source>(alloc: Global, opened: &Opened, source: &mut S) -> Result<String, Refusal>
+    requires { IsInRange opened.now.request.task }
+    ensures answer { (bytes : List ℕ) × IsTold (S.left source.old) bytes × MatchResult result (λ report. IsOutcomeAt (asks opened.now.params opened.now.request) bytes (done (string_bytes report)))
+        (IsRefusedAt (asks opened.now.params opened.now.request) bytes) }
+    ensures end { OnOk result (reads_input (asks opened.now.params opened.now.request) ≡ true → IsAtEnd (S.left source.old) (S.left source.new)) }
     ensures suffix { IsSuffix (S.left source.new) (S.left source.old) }
     ensures never_falls { S.faults source.old ≤ S.faults source.new }
     ensures read_fault { result ≡ Err refusals.ReadFault → Rose (S.faults source.old) (S.faults source.new) }
     ensures no_fault { result ≢ Err refusals.ReadFault → S.faults source.new ≡ S.faults source.old }
-    ensures unread { (refusal : Refusal) → opening (map (λ s. s.now) words.now) ≡ ended refusal → (S.left source.new ≡ S.left source.old) × (S.faults source.new ≡ S.faults source.old) }
+    ensures unread { reads_input (asks opened.now.params opened.now.request) ≡ false → (S.left source.new ≡ S.left source.old) × (S.faults source.new ≡ S.faults source.old) }
 {
-    let params = open_words(words)?;
-    let bytes = read_input(alloc, source)?;
-    bracket_report(alloc, &params, &bytes)
+    match opened.request.task {
+        Task::Bracket => {
+            let bytes = read_input(alloc, source)?;
+            bracket_report(alloc, opened, &bytes)
+        }
+        Task::Torus { crossings } => torus_report(alloc, opened, crossings),
+    }
+}
+
+/// The report of what the words ask for.
+fn report<S: Source>(alloc: Global, words: &[&str], source: &mut S) -> Result<String, Refusal>
+    ensures answer { (bytes : List ℕ) × IsTold (S.left source.old) bytes × MatchResult result (λ report. IsOutcome (map (λ s. s.now) words.now) bytes (done (string_bytes report)))
+        (IsRefusedAs (map (λ s. s.now) words.now) bytes) }
+    ensures taken { takes_line (command_line (map (λ s. s.now) words.now)) ≡ true → result ≢ Err refusals.WordsRefused }
+    ensures end { OnOk result (reads_input (opening (map (λ s. s.now) words.now)) ≡ true → IsAtEnd (S.left source.old) (S.left source.new)) }
+    ensures suffix { IsSuffix (S.left source.new) (S.left source.old) }
+    ensures never_falls { S.faults source.old ≤ S.faults source.new }
+    ensures read_fault { result ≡ Err refusals.ReadFault → Rose (S.faults source.old) (S.faults source.new) }
+    ensures no_fault { result ≢ Err refusals.ReadFault → S.faults source.new ≡ S.faults source.old }
+    ensures unread { reads_input (opening (map (λ s. s.now) words.now)) ≡ false → (S.left source.new ≡ S.left source.old) × (S.faults source.new ≡ S.faults source.old) }
+{
+    let opened = open_words(alloc, words)?;
+    task_report(alloc, &opened, source)
 }
 
 /// The fault line of the refusal.
@@ -100,8 +108,12 @@ pub fn run<S: Source, K: Sink, E: Sink>(
         (written (K.taken out.old) (K.taken out.new) (K.faults out.old) (K.faults out.new))
         (written (E.taken err.old) (E.taken err.new) (E.faults err.old) (E.faults err.new)) }
 
-    // At `Done` the source was read to its end; at every status what is left is the end of what was left.
-    ensures end { result ≡ Status.Done → IsAtEnd (S.left source.old) (S.left source.new) }
+    // Where `clap` takes the words by its definition, they aren't refused as no command line, but for want of memory.
+    ensures taken { takes_line (command_line (map (λ s. s.now) words.now)) ≡ true → result ≢ Status.Memory
+        → opening (map (λ s. s.now) words.now) ≢ ended refusals.WordsRefused }
+
+    // At `Done` an input that is read was read to its end; at every status what is left is the end of what was left.
+    ensures end { result ≡ Status.Done → reads_input (opening (map (λ s. s.now) words.now)) ≡ true → IsAtEnd (S.left source.old) (S.left source.new) }
     ensures suffix { IsSuffix (S.left source.new) (S.left source.old) }
 
     // No count of faults falls.
@@ -111,13 +123,14 @@ pub fn run<S: Source, K: Sink, E: Sink>(
     ensures read_fault { result ≡ Status.ReadFault → Rose (S.faults source.old) (S.faults source.new) }
     ensures no_fault { result ≢ Status.ReadFault → result ≢ Status.Memory → S.faults source.new ≡ S.faults source.old }
 
-    // Where the words are refused, the source isn't read.
-    ensures unread { (refusal : Refusal) → opening (map (λ s. s.now) words.now) ≡ ended refusal
+    // Where the words are refused, and for a torus link, the source isn't read.
+    ensures unread { reads_input (opening (map (λ s. s.now) words.now)) ≡ false
         → (S.left source.new ≡ S.left source.old) × (S.faults source.new ≡ S.faults source.old) }
 
-    // Where the source tells its bytes, their outcome is a report and no stream failed, it is written, or memory
-    // was wanting.
-    ensures complete { (bytes report : List ℕ) → S.left source.old ≡ Some bytes → IsOutcome (map (λ s. s.now) words.now) bytes (done report)
+    // Where the source tells its bytes, or isn't read, the outcome is a report and no stream failed, the report is
+    // written, or memory was wanting.
+    ensures complete { (bytes report : List ℕ) → (reads_input (opening (map (λ s. s.now) words.now)) ≡ true → S.left source.old ≡ Some bytes)
+        → IsOutcome (map (λ s. s.now) words.now) bytes (done report)
         → ¬ Rose (S.faults source.old) (S.faults source.new) → ¬ Rose (K.faults out.old) (K.faults out.new)
         → (result ≡ Status.Done) ⊎ (result ≡ Status.Memory) }
 {

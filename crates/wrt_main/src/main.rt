@@ -6,7 +6,6 @@ use std::alloc::AllocError;
 use std::process::ExitCode;
 use std::{env, io};
 use wrt_commands::{Refusal, Status, run};
-use wrt_request::WordsFault;
 
 /// Hands the words after the program's name and the standard streams to `run`.
 fn calculate(rt: &HostRuntime) -> io::Result<Status> {
@@ -24,7 +23,7 @@ fn main(rt: HostRuntime) -> ExitCode {
     let refusal = match calculate(&rt) {
         Ok(status) => return ExitCode::from(status.code()),
         Err(error) if error.kind() == io::ErrorKind::OutOfMemory => Refusal::Memory,
-        Err(_) => Refusal::Words(WordsFault::Refused),
+        Err(_) => Refusal::WordsRefused,
     };
     let _ = eprintln!(rt; "wrtcalc: {refusal}");
     ExitCode::from(refusal.status().code())

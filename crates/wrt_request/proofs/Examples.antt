@@ -1,58 +1,205 @@
 -- The definitions, computed.
-use Rattle.std.proofs.Common.{◌≡◌, refl, codes, [], ◌∷◌, Some, None, Ok, Err}
-use Rattle.wrt_request.specs.declared.request.Request.TheVariants.{Bracket}
-use Rattle.wrt_request.specs.declared.request.WordsFault.TheVariants.{Refused, Command, Takes, Number}
+use Rattle.std.proofs.Common.{◌≡◌, refl, codes, true, false, [], ◌∷◌, Some, None, Ok, Err}
+use Rattle.std.specs.Prelude.{◌==◌}
+use Rattle.std.specs.List.{slice_split}
+use Rattle.wrt_parts.specs.Texts.{Text, Texts}
+use Rattle.wrt_request.specs.declared.order.OrderWord.TheVariants.{Listed, Greedy, Given}
+use Rattle.wrt_request.specs.declared.option_name.OptionName.TheVariants.{Colors, Framing, Workers, Order}
+use Rattle.wrt_request.specs.declared.request.Numbers.{Numbers}
+use Rattle.wrt_request.specs.declared.request.Task.TheVariants.{Bracket, Torus}
+use Rattle.wrt_request.specs.declared.fault.WordsFault.TheVariants as faults
+use Rattle.wrt_request.specs.declared.fault.WordsFault.TheVariants.{UnknownCommand, Takes, Number, Crossings}
+use Rattle.wrt_request.proofs.OnLiterals.{request_on_literals}
 use Rattle.wrt_request.specs.Decimals.{decimal_value}
+use Rattle.wrt_request.specs.Lists.{list_value}
 use Rattle.wrt_request.specs.Requests.{request_of}
 
+-- A command with the numbers that stand with single spaces (32) between them, and no option.
+abbrev bare : Text → Text → Texts
+bare command numbers = record {
+  command = command;
+  numbers = slice_split (λ b. b == 32) numbers;
+  colors = None;
+  framing = None;
+  workers = None;
+  order = None;
+  turns = false;
+}
+
+abbrev at_41 : Numbers
+at_41 = record { modulus = 41; root = 2; level = 5 }
+
 zero : decimal_value (codes "0") ≡ Some 0
-unfolding decimal_value
+unfolding request_on_literals
 zero = refl
 
 needless_zero : decimal_value (codes "007") ≡ None
-unfolding decimal_value
+unfolding request_on_literals
 needless_zero = refl
 
+two_zeros : decimal_value (codes "00") ≡ None
+unfolding request_on_literals
+two_zeros = refl
+
 empty : decimal_value [] ≡ None
-unfolding decimal_value
+unfolding request_on_literals
 empty = refl
 
 plus : decimal_value (codes "+7") ≡ None
-unfolding decimal_value
+unfolding request_on_literals
 plus = refl
 
+minus : decimal_value (codes "-7") ≡ None
+unfolding request_on_literals
+minus = refl
+
+letter : decimal_value (codes "1a") ≡ None
+unfolding request_on_literals
+letter = refl
+
 greatest : decimal_value (codes "18446744073709551615") ≡ Some 18446744073709551615
-unfolding decimal_value
+unfolding request_on_literals
 greatest = refl
 
 too_great : decimal_value (codes "18446744073709551616") ≡ None
-unfolding decimal_value
+unfolding request_on_literals
 too_great = refl
 
-letter : decimal_value (codes "1a") ≡ None
-unfolding decimal_value
-letter = refl
+a_list : list_value (codes "3,1,2") ≡ Some (3 ∷ 1 ∷ 2 ∷ [])
+unfolding request_on_literals
+a_list = refl
 
-a_bracket : request_of (codes "bracket" ∷ codes "41" ∷ codes "2" ∷ codes "5" ∷ []) ≡ Ok (Bracket record { modulus = 41; root = 2; level = 5 })
-unfolding decimal_value request_of
+empty_list : list_value [] ≡ Some []
+unfolding request_on_literals
+empty_list = refl
+
+list_of_zero : list_value (codes "0") ≡ Some (0 ∷ [])
+unfolding request_on_literals
+list_of_zero = refl
+
+nine_digits : list_value (codes "999999999") ≡ Some (999999999 ∷ [])
+unfolding request_on_literals
+nine_digits = refl
+
+ten_digits : list_value (codes "1,1000000000") ≡ None
+unfolding request_on_literals
+ten_digits = refl
+
+two_commas : list_value (codes "3,,1") ≡ None
+unfolding request_on_literals
+two_commas = refl
+
+last_comma : list_value (codes "3,1,") ≡ None
+unfolding request_on_literals
+last_comma = refl
+
+first_comma : list_value (codes ",3") ≡ None
+unfolding request_on_literals
+first_comma = refl
+
+space_in_list : list_value (codes "3, 1") ≡ None
+unfolding request_on_literals
+space_in_list = refl
+
+needless_zero_in_list : list_value (codes "3,01") ≡ None
+unfolding request_on_literals
+needless_zero_in_list = refl
+
+sign_in_list : list_value (codes "3,+1") ≡ None
+unfolding request_on_literals
+sign_in_list = refl
+
+a_bracket : request_of (bare (codes "bracket") (codes "41 2 5")) ≡ Ok (record { task = Bracket; numbers = at_41; order = Listed; turns = false })
+unfolding request_on_literals
 a_bracket = refl
 
-no_word : request_of [] ≡ Err Refused
-unfolding request_of
-no_word = refl
+a_torus_link : request_of (record (bare (codes "torus") (codes "2 41 2 5")) { turns = true }) ≡ Ok (record { task = (Torus 2); numbers = at_41; order = Listed; turns = true })
+unfolding request_on_literals
+a_torus_link = refl
 
-a_flag : request_of (codes "bracket" ∷ codes "--turns" ∷ []) ≡ Err Refused
-unfolding request_of
-a_flag = refl
+greedily : request_of (record (bare (codes "bracket") (codes "41 2 5")) { order = Some (codes "greedy") }) ≡ Ok (record { task = Bracket; numbers = at_41; order = Greedy; turns = false })
+unfolding request_on_literals
+greedily = refl
 
-another_command : request_of (codes "homfly" ∷ codes "41" ∷ []) ≡ Err Command
-unfolding request_of
+by_its_name : request_of (record (bare (codes "bracket") (codes "41 2 5")) { order = Some (codes "listed") }) ≡ Ok (record { task = Bracket; numbers = at_41; order = Listed; turns = false })
+unfolding request_on_literals
+by_its_name = refl
+
+in_an_order : request_of (record (bare (codes "bracket") (codes "41 2 5")) { order = Some (codes "3,1,2"); turns = true }) ≡ Ok (record { task = Bracket; numbers = at_41; order = (Given (3 ∷ 1 ∷ 2 ∷ [])); turns = true })
+unfolding request_on_literals
+in_an_order = refl
+
+in_the_empty_order : request_of (record (bare (codes "bracket") (codes "41 2 5")) { order = Some [] }) ≡ Ok (record { task = Bracket; numbers = at_41; order = (Given []); turns = false })
+unfolding request_on_literals
+in_the_empty_order = refl
+
+most_crossings : request_of (bare (codes "torus") (codes "256 41 2 5")) ≡ Ok (record { task = (Torus 256); numbers = at_41; order = Listed; turns = false })
+unfolding request_on_literals
+most_crossings = refl
+
+another_command : request_of (bare (codes "homfly") (codes "41 2 5")) ≡ Err UnknownCommand
+unfolding request_on_literals
 another_command = refl
 
-two_numbers : request_of (codes "bracket" ∷ codes "41" ∷ codes "2" ∷ []) ≡ Err (Takes 3)
-unfolding request_of
+capital_letter : request_of (bare (codes "Bracket") (codes "41 2 5")) ≡ Err UnknownCommand
+unfolding request_on_literals
+capital_letter = refl
+
+no_command : request_of (bare (codes "") (codes "41 2 5")) ≡ Err UnknownCommand
+unfolding request_on_literals
+no_command = refl
+
+two_numbers : request_of (bare (codes "bracket") (codes "41 2")) ≡ Err (Takes 3)
+unfolding request_on_literals
 two_numbers = refl
 
-second_number : request_of (codes "bracket" ∷ codes "41" ∷ codes "02" ∷ codes "x" ∷ []) ≡ Err (Number 2)
-unfolding decimal_value request_of
+three_numbers_of_four : request_of (bare (codes "torus") (codes "41 2 5")) ≡ Err (Takes 4)
+unfolding request_on_literals
+three_numbers_of_four = refl
+
+four_numbers_of_three : request_of (bare (codes "bracket") (codes "2 41 2 5")) ≡ Err (Takes 3)
+unfolding request_on_literals
+four_numbers_of_three = refl
+
+second_number : request_of (bare (codes "bracket") (codes "41 02 x")) ≡ Err (Number 2)
+unfolding request_on_literals
 second_number = refl
+
+-- The numbers are looked at before the crossings.
+fourth_number : request_of (bare (codes "torus") (codes "0 41 2 +5")) ≡ Err (Number 4)
+unfolding request_on_literals
+fourth_number = refl
+
+empty_number : request_of (bare (codes "bracket") (codes "41  5")) ≡ Err (Number 2)
+unfolding request_on_literals
+empty_number = refl
+
+workers_of_bracket : request_of (record (bare (codes "bracket") (codes "41 2 5")) { workers = Some (codes "2") }) ≡ Err (faults.Option Workers)
+unfolding request_on_literals
+workers_of_bracket = refl
+
+-- The options are looked at before their values.
+first_foreign_option : request_of (record (bare (codes "bracket") (codes "41 2 5")) { colors = Some []; workers = Some []; order = Some (codes "x") }) ≡ Err (faults.Option Colors)
+unfolding request_on_literals
+first_foreign_option = refl
+
+foreign_flagged : request_of (record (bare (codes "torus") (codes "2 41 2 5")) { framing = Some (codes "1"); turns = true }) ≡ Err (faults.Option Framing)
+unfolding request_on_literals
+foreign_flagged = refl
+
+-- The values of the options are looked at before the crossings.
+no_order : request_of (record (bare (codes "torus") (codes "0 41 2 5")) { order = Some (codes "1;2") }) ≡ Err (faults.List Order)
+unfolding request_on_literals
+no_order = refl
+
+order_in_capitals : request_of (record (bare (codes "bracket") (codes "41 2 5")) { order = Some (codes "Listed") }) ≡ Err (faults.List Order)
+unfolding request_on_literals
+order_in_capitals = refl
+
+no_crossings : request_of (bare (codes "torus") (codes "0 41 2 5")) ≡ Err Crossings
+unfolding request_on_literals
+no_crossings = refl
+
+too_many_crossings : request_of (bare (codes "torus") (codes "257 41 2 5")) ≡ Err Crossings
+unfolding request_on_literals
+too_many_crossings = refl

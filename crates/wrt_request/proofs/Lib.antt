@@ -1,2 +1,7 @@
 pub mod Numerals
+pub mod Members
+pub mod WalkLemmas
+pub mod Spellings
+pub mod ListSpellings
+pub mod OnLiterals
 mod Examples

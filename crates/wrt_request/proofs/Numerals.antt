@@ -9,13 +9,13 @@ use Rattle.std.proofs.lemmas.Bool.Decides.{nat_tests}
 use Rattle.std.proofs.lemmas.Str.Parse.{IsNumeralModel, not_in_digits, numerals_by_value, parse_plain, tells_all_ascii_digits}
 use Rattle.wrt_request.specs.Decimals.{decimal_value, is_marked}
 
-own : IsNumeralModel (λ ds. all_ascii_digits ds ≡ true) (digits_value 10)
+pub own : IsNumeralModel (λ ds. all_ascii_digits ds ≡ true) (digits_value 10)
 own = numerals_by_value (λ ds. all_ascii_digits ds ≡ true) tells_all_ascii_digits
 
 abbrev marked_test : ℕ → ℕ → Bool
 marked_test n x = ltb 0 n && (eqb x 43 || (eqb x 48 && ltb 1 n))
 
-abbrev decimal_test : ℕ → ℕ → Bool → ℕ → Bool
+abbrev pub decimal_test : ℕ → ℕ → Bool → ℕ → Bool
 decimal_test n x digits v = (ltb 0 n && (digits && not (eqb x 48 && ltb 1 n))) && ltb v (2 ^ 64)
 
 marked_test_none : (n x v : ℕ) (digits : Bool) → (digits ≡ true → 0 < n → x ≢ 43) → marked_test n x ≡ true → decimal_test n x digits v ≡ false
@@ -24,13 +24,13 @@ marked_test_none n x v digits no_plus marked = grind (arith, nat_tests)
 plain_test : (n x v : ℕ) (digits : Bool) → digits ≡ true → 0 < n → v < 2 ^ 64 → marked_test n x ≡ false → decimal_test n x digits v ≡ true
 plain_test n x v digits d some small plain = grind (arith, nat_tests)
 
-test_digits : (n x v : ℕ) (digits : Bool) → decimal_test n x digits v ≡ true → digits ≡ true
+pub test_digits : (n x v : ℕ) (digits : Bool) → decimal_test n x digits v ≡ true → digits ≡ true
 test_digits n x v digits h = grind (arith, nat_tests)
 
-test_some : (n x v : ℕ) (digits : Bool) → decimal_test n x digits v ≡ true → 0 < n
+pub test_some : (n x v : ℕ) (digits : Bool) → decimal_test n x digits v ≡ true → 0 < n
 test_some n x v digits h = grind (arith, nat_tests)
 
-test_small : (n x v : ℕ) (digits : Bool) → decimal_test n x digits v ≡ true → v < 2 ^ 64
+pub test_small : (n x v : ℕ) (digits : Bool) → decimal_test n x digits v ≡ true → v < 2 ^ 64
 test_small n x v digits h = grind (arith, nat_tests)
 
 no_plus : (n x : ℕ) → marked_test n x ≡ false → 0 < n → x ≢ 43

@@ -3,7 +3,9 @@
 --
 --     is_decimal text        one digit or more, and 0 first only where it is the one digit
 --     decimal_value text     the number that the text writes: 41 for "41", and none for "041", "+41" and "41a"
---     is_marked text         the text begins with a sign or a needless 0
+--     is_marked text         the text begins with a plus or a needless 0
+--
+-- A text writes a number below 2^64 exactly where it is the number's decimal spelling (specs/Laws.antt).
 use Rattle.std.specs.Prelude.{◌&&◌, ◌||◌, ◌==◌, ◌^◌, ℕ, Bool, not, List, length, Option, Some, None, if◌then◌else◌, nat_lt, slice_index}
 use Rattle.std.specs.Str.{all_ascii_digits}
 use Rattle.std.specs.Str.Parse.{digits_value}

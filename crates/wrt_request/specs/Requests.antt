@@ -1,40 +1,57 @@
--- What the program's words ask for, and why they are refused. The words are those after the program's name, as texts of
--- bytes. (This project's own.)
+-- What the parts of a command line ask for, or the first reason against them. (This project's own.)
 --
---     request_of words      the request, or the first reason against the words, in the order of `WordsFault`
+--     after part next                   what follows from the part, or the fault of the part
+--     task_of command numbers           what the command asks for with its own numbers
+--     IsInRange task                    the crossings of the task are 1 to 256
+--     shared_numbers own numbers        M, A and R, behind so many numbers of the command's own
+--     rest_of command numbers texts     the request of a command with its numbers, by the options
+--     request_of texts                  the request of the parts
 --
--- So far there is one command, `bracket M A R`, and there are no options: a word that begins with `-` is refused.
-use Rattle.std.specs.Prelude.{◌==◌, ℕ, Bool, List, [], length, Option, Some, None, Result, Ok, Err, if◌then◌else◌, slice_index, slice_index_or, codes}
-use Rattle.std.specs.List.{list_any}
-use Rattle.std.specs.Str.{bytes_eq}
-use Rattle.wrt_request.specs.Decimals.{decimal_value}
+-- "torus 2 41 2 5 --turns" asks for the bracket of the Hopf link at 41, 2, 5, with its turns; "torus 2 41 2" doesn't have
+-- the four numbers that `torus` takes, and "torus 0 41 2 5" not 1 to 256 crossings (proofs/Examples.antt).
+use Rattle.std.specs.Prelude.{◌&&◌, ◌+◌, ◌≤◌, ℕ, List, Result, Ok, Err, if◌then◌else◌, nat_lt, slice_index}
+use Rattle.wrt_parts.specs.Texts.{Texts}
+use Rattle.wrt_request.specs.Commands.{command_of, own_count, check_options}
+use Rattle.wrt_request.specs.Numbers.{numbers_of}
+use Rattle.wrt_request.specs.Orders.{order_of}
+use Rattle.wrt_request.specs.declared.command.Command.{Command}
+use Rattle.wrt_request.specs.declared.command.Command.TheVariants as commands
+use Rattle.wrt_request.specs.declared.request.Numbers.{Numbers}
 use Rattle.wrt_request.specs.declared.request.Request.{Request}
-use Rattle.wrt_request.specs.declared.request.Request.TheVariants.{Bracket}
-use Rattle.wrt_request.specs.declared.request.WordsFault.{WordsFault}
-use Rattle.wrt_request.specs.declared.request.WordsFault.TheVariants.{Refused, Command, Takes, Number}
+use Rattle.wrt_request.specs.declared.request.Task.{Task}
+use Rattle.wrt_request.specs.declared.request.Task.TheVariants.{Bracket, Torus}
+use Rattle.wrt_request.specs.declared.fault.WordsFault.{WordsFault}
+use Rattle.wrt_request.specs.declared.fault.WordsFault.TheVariants.{Crossings}
 
--- The text begins with a hyphen (45).
-abbrev pub is_option : List ℕ → Bool
-is_option text = slice_index text 0 == 45
+-- What follows from the part, or the fault of the part.
+abbrev pub after : {A B : Type 0} → Result A WordsFault → (A → Result B WordsFault) → Result B WordsFault
+after (Ok part) next = next part
+after (Err fault) next = Err fault
 
--- What follows from the number of a word, where it is one.
-abbrev pub with_number : ℕ → Option ℕ → (ℕ → Result Request WordsFault) → Result Request WordsFault
-with_number position None next = Err (Number position)
-with_number position (Some n) next = next n
+-- What the command asks for with its own numbers: the crossings of `torus` are 1 to 256.
+abbrev pub task_of : Command → List ℕ → Result Task WordsFault
+task_of commands.Bracket numbers = Ok Bracket
+task_of commands.Torus numbers =
+    if nat_lt 0 (slice_index numbers 0) && nat_lt (slice_index numbers 0) 257 then Ok (Torus (slice_index numbers 0)) else Err Crossings
 
--- The number that the word at a position writes, if it writes one.
-abbrev pub number_at : List (List ℕ) → ℕ → Option ℕ
-number_at words position = decimal_value (slice_index_or words position [])
+-- The crossings of the task are 1 to 256.
+abbrev pub IsInRange : Task → Type 0
+IsInRange Bracket = Unit {0}
+IsInRange (Torus crossings) = (1 ≤ crossings) × (crossings ≤ 256)
 
--- The request of `bracket` with three numbers behind it.
-abbrev pub bracket_of : List (List ℕ) → Result Request WordsFault
-bracket_of words =
-    with_number 1 (number_at words 1) (λ m. with_number 2 (number_at words 2) (λ a. with_number 3 (number_at words 3) (λ r. Ok (Bracket record { modulus = m; root = a; level = r }))))
+-- M, A and R, behind so many numbers of the command's own.
+abbrev pub shared_numbers : ℕ → List ℕ → Numbers
+shared_numbers own numbers =
+    record { modulus = slice_index numbers own; root = slice_index numbers (own + 1); level = slice_index numbers (own + 2) }
 
--- What the words ask for.
-unfoldable pub request_of : List (List ℕ) → Result Request WordsFault
-request_of words =
-    if length words == 0 then Err Refused
-    else (if list_any is_option words then Err Refused
-    else (if bytes_eq (slice_index_or words 0 []) (codes "bracket") then (if length words == 4 then bracket_of words else Err (Takes 3))
-    else Err Command))
+-- The request of a command with its numbers: the options belong to it, the order is one, and the task is.
+unfoldable pub rest_of : Command → List ℕ → Texts → Result Request WordsFault
+rest_of command numbers texts =
+    after (check_options command texts) (λ _. after (order_of texts.order) (λ order. after (task_of command numbers) (λ task.
+    Ok (record { task = task; numbers = shared_numbers (own_count command) numbers; order = order; turns = texts.turns }))))
+
+-- The request of the parts: the command is one, its numbers are as many as it takes, and the rest holds.
+unfoldable pub request_of : Texts → Result Request WordsFault
+request_of texts =
+    after (command_of texts.command) (λ command. after (numbers_of (own_count command + 3) texts.numbers) (λ numbers.
+    rest_of command numbers texts))

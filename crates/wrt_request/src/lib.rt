@@ -1,8 +1,22 @@
-//! What the program's words ask for.
+//! What the program's words ask for: the walk over the parts of a command line, in the one order of
+//! refusals.
 #![tactic(auto)]
 
+mod command;
+mod fault;
+pub mod laws;
+mod list;
 mod number;
+mod option_name;
+mod order;
 mod request;
 
+pub use fault::WordsFault;
+pub use list::NumberList;
 pub use number::decimal;
-pub use request::{Numbers, Request, WordsFault, read_request};
+pub use option_name::OptionName;
+pub use order::OrderWord;
+pub use request::{Numbers, Request, Task, read_request};
+
+#[cfg(test)]
+mod tests;

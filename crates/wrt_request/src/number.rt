@@ -1,7 +1,12 @@
 //! Numbers as the program's words write them.
 
-ghost use Rattle.std.specs.Prelude.{◌≡◌};
+ghost use Rattle.std.specs.Prelude.{◌≡◌, ◌≢◌, length, map, IfOk, IfErr, Ok, Err};
 ghost use Rattle.wrt_request.specs.Decimals.{decimal_value, is_marked};
+ghost use Rattle.wrt_request.specs.Numbers.{numbers_of};
+ghost use Rattle.wrt_request.specs.declared.fault.WordsFault.TheVariants.{Memory};
+
+use crate::fault::WordsFault;
+use std::alloc::Global;
 
 /// Whether `+` stands first, or a `0` that isn't needed.
 fn is_marked(text: &[u8]) -> bool
@@ -20,4 +25,32 @@ pub fn decimal(text: &str) -> Option<u64>
     } else {
         text.parse::<u64>().ok()
     }
+}
+
+/// The numbers that the words write, as many as are wanted, or the first that writes none.
+#[tactic(auto, unfolding(crate::specs::Numbers::numbers_of))]
+pub(crate) fn read_numbers(
+    alloc: Global,
+    wanted: u32,
+    texts: &[&str],
+) -> Result<Vec<u64>, WordsFault>
+    ensures numbers { IfOk result (λ numbers. numbers_of wanted (map (λ s. s.now) texts.now) ≡ Ok numbers.items) }
+    ensures fault { IfErr result (λ fault. fault ≢ Memory → numbers_of wanted (map (λ s. s.now) texts.now) ≡ Err fault) }
+    ensures as_many { IfOk result (λ numbers. length numbers.items ≡ wanted) }
+{
+    if texts.len() != wanted as usize {
+        return Err(WordsFault::Takes { numbers: wanted });
+    }
+    let mut numbers = Vec::new(alloc);
+    for text in texts {
+        match decimal(text) {
+            Some(number) => numbers.push(number)?,
+            None => {
+                return Err(WordsFault::Number {
+                    position: numbers.len() as u32 + 1,
+                });
+            }
+        }
+    }
+    Ok(numbers)
 }

@@ -1,10 +1,17 @@
-//! Requests, and why words are refused.
+//! Requests.
 
-ghost use Rattle.std.specs.Prelude.{◌≡◌, length, map};
-ghost use Rattle.std.specs.List.{list_any};
-ghost use Rattle.wrt_request.specs.Requests.{request_of, bracket_of, is_option};
+ghost use Rattle.std.specs.Prelude.{◌≡◌, ◌≢◌, ◌+◌, length, Ok, Err, IfOk, IfErr};
+ghost use Rattle.wrt_parts.specs.Texts.{texts_of};
+ghost use Rattle.wrt_request.specs.Commands.{own_count};
+ghost use Rattle.wrt_request.specs.Requests.{IsInRange, request_of, rest_of, shared_numbers, task_of};
+ghost use Rattle.wrt_request.specs.declared.fault.WordsFault.TheVariants.{Memory};
 
-use crate::number::decimal;
+use crate::command::Command;
+use crate::fault::WordsFault;
+use crate::number::read_numbers;
+use crate::order::{OrderWord, read_order};
+use std::alloc::Global;
+use wrt_parts::Parts;
 
 /// The numbers M, A and R of a command, as they were written. They needn't be parameters.
 #[derive(Clone, Copy, Debug, PartialEq, Eq)]
@@ -17,83 +24,91 @@ pub struct Numbers {
     pub level: u64,
 }
 
-/// What the words ask for.
+/// What is asked for at M, A and R.
 #[derive(Clone, Copy, Debug, PartialEq, Eq)]
-pub enum Request {
+pub enum Task {
     /// `bracket M A R`: the bracket of the diagram on the input.
-    Bracket(Numbers),
+    Bracket,
+    /// `torus N M A R`: the bracket of the closed braid on two strands with N positive crossings, 1 to 256.
+    Torus { crossings: u32 },
 }
 
-/// Why words are refused: the first reason that holds, in this order.
-#[derive(Clone, Copy, Debug, PartialEq, Eq)]
-pub enum WordsFault {
-    /// There is no word, or one begins with `-`.
-    Refused,
-    /// The first word is no command.
-    Command,
-    /// The command takes so many numbers.
-    Takes(u32),
-    /// The number at this position, from 1, isn't one in decimal below 2^64.
-    Number(u32),
+/// What the words ask for.
+#[derive(Drop, Debug)]
+pub struct Request {
+    /// What is asked for.
+    pub task: Task,
+    /// M, A and R.
+    pub numbers: Numbers,
+    /// The order in which crossings are taken.
+    pub order: OrderWord,
+    /// Whether the turns are reported too.
+    pub turns: bool,
 }
 
-/// The request of the command `bracket` with the three numbers behind it.
-fn bracket_of(words: &[&str]) -> Result<Request, WordsFault>
-    requires { length words.now ≡ 4 }
-    ensures { result ≡ bracket_of (map (λ s. s.now) words.now) }
+/// What the command asks for with its own numbers.
+fn read_task(command: Command, numbers: &[u64]) -> Result<Task, WordsFault>
+    requires { length numbers.now ≡ own_count command + 3 }
+    ensures value { result ≡ task_of command numbers.now }
+    ensures in_range { IfOk result (λ task. IsInRange task) }
 {
-    let Some(modulus) = decimal(words[1]) else {
-        return Err(WordsFault::Number(1));
-    };
-    let Some(root) = decimal(words[2]) else {
-        return Err(WordsFault::Number(2));
-    };
-    let Some(level) = decimal(words[3]) else {
-        return Err(WordsFault::Number(3));
-    };
-    Ok(Request::Bracket(Numbers {
-        modulus,
-        root,
-        level,
-    }))
+    match command {
+        Command::Bracket => Ok(Task::Bracket),
+        Command::Torus => match numbers[0] {
+            crossings @ 1..=256 => Ok(Task::Torus {
+                crossings: crossings as u32,
+            }),
+            _ => Err(WordsFault::Crossings),
+        },
+    }
 }
 
-/// Whether the word begins with `-`.
-fn is_option(word: &str) -> bool
-    ensures { result ≡ is_option word.now }
+/// M, A and R: the numbers behind the command's own.
+fn shared_numbers(command: Command, numbers: &[u64]) -> Numbers
+    requires { length numbers.now ≡ own_count command + 3 }
+    ensures { result ≡ shared_numbers (own_count command) numbers.now }
 {
-    let bytes = word.as_bytes();
-    bytes.len() > 0 && bytes[0] == b'-'
+    let own = command.own_count() as usize;
+    Numbers {
+        modulus: numbers[own],
+        root: numbers[own + 1],
+        level: numbers[own + 2],
+    }
 }
 
-/// Whether one of the words begins with `-`.
-fn has_option(words: &[&str]) -> bool
-    ensures { result ≡ list_any is_option (map (λ s. s.now) words.now) }
+/// The request of a command with its numbers, by the options.
+fn read_rest(
+    alloc: Global,
+    command: Command,
+    numbers: &[u64],
+    parts: &Parts,
+) -> Result<Request, WordsFault>
+    requires { length numbers.now ≡ own_count command + 3 }
+    ensures request { IfOk result (λ request. rest_of command numbers.now (texts_of parts.now) ≡ Ok request) }
+    ensures fault { IfErr result (λ fault. fault ≢ Memory → rest_of command numbers.now (texts_of parts.now) ≡ Err fault) }
+    ensures in_range { IfOk result (λ request. IsInRange request.task) }
 {
-    for word in words {
-        if is_option(word) {
-            return true;
-        }
-    }
-    false
+    command.check_options(parts)?;
+    let order = read_order(alloc, parts.order)?;
+    let task = read_task(command, numbers)?;
+    Ok(Request {
+        task,
+        numbers: shared_numbers(command, numbers),
+        order,
+        turns: parts.turns,
+    })
 }
 
-/// What the words after the program's name ask for, or the first reason against them. It takes no memory.
-#[tactic(auto, unfolding(crate::specs::Requests::request_of))]
-pub fn read_request(words: &[&str]) -> Result<Request, WordsFault>
-    ensures { result ≡ request_of (map (λ s. s.now) words.now) }
+/// What the parts of a command line ask for, or the first reason against them. `Memory` is want of
+/// memory, and may stand in place of any other answer.
+pub fn read_request(alloc: Global, parts: &Parts) -> Result<Request, WordsFault>
+    ensures request { IfOk result (λ request. request_of (texts_of parts.now) ≡ Ok request) }
+    ensures fault { IfErr result (λ fault. fault ≢ WordsFault.Memory → request_of (texts_of parts.now) ≡ Err fault) }
+
+    // The crossings that are asked for are 1 to 256.
+    ensures in_range { IfOk result (λ request. IsInRange request.task) }
 {
-    if words.is_empty() {
-        return Err(WordsFault::Refused);
-    }
-    if has_option(words) {
-        return Err(WordsFault::Refused);
-    }
-    if words[0] != "bracket" {
-        return Err(WordsFault::Command);
-    }
-    if words.len() != 4 {
-        return Err(WordsFault::Takes(3));
-    }
-    bracket_of(words)
+    let command = Command::named(parts.command)?;
+    let numbers = read_numbers(alloc, command.own_count() + 3, &parts.numbers)?;
+    read_rest(alloc, command, &numbers, parts)
 }

@@ -1,0 +1,42 @@
+//! Why the parts of a command line ask for nothing.
+
+ghost use Rattle.std.specs.Prelude.{◌≡◌};
+ghost use Rattle.wrt_request.specs.declared.fault.WordsFault.TheVariants.{Memory};
+
+use crate::option_name::OptionName;
+use std::alloc::{AllocError, AllocFailed};
+
+/// Why the parts of a command line ask for nothing: the first reason that holds, in this order.
+#[derive(Clone, Copy, Debug, PartialEq, Eq)]
+pub enum WordsFault {
+    /// The command is none of the program's.
+    UnknownCommand,
+    /// The command takes so many numbers, and there are more or fewer.
+    Takes { numbers: u32 },
+    /// The number at this position, from 1, isn't one in decimal below 2^64.
+    Number { position: u32 },
+    /// The option doesn't belong to the command.
+    Option { option: OptionName },
+    /// The value of the option is neither one of its words nor a list.
+    List { option: OptionName },
+    /// The crossings aren't 1 to 256.
+    Crossings,
+    /// Memory ran out.
+    Memory,
+}
+
+impl From<AllocError> for WordsFault {
+    ghost from_gives = { λ _ e. e ≡ Memory };
+
+    fn from(_error: AllocError) -> WordsFault {
+        WordsFault::Memory
+    }
+}
+
+impl<T: Drop> From<AllocFailed<T>> for WordsFault {
+    ghost from_gives = { λ _ e. e ≡ Memory };
+
+    fn from(_error: AllocFailed<T>) -> WordsFault {
+        WordsFault::Memory
+    }
+}

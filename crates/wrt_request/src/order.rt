@@ -1,0 +1,41 @@
+//! The order in which crossings are taken, as `--order` says it.
+
+ghost use Rattle.std.specs.Prelude.{◌≡◌, ◌≢◌, IfOk, IfErr, Ok, Err, option_map};
+ghost use Rattle.wrt_request.specs.Orders.{order_of};
+ghost use Rattle.wrt_request.specs.declared.fault.WordsFault.TheVariants.{Memory};
+
+use crate::fault::WordsFault;
+use crate::list::{NumberList, read_list};
+use crate::option_name::OptionName;
+use std::alloc::Global;
+
+/// The order in which crossings are taken.
+#[derive(Drop, Debug)]
+pub enum OrderWord {
+    /// `listed`, or no option: as they stand in the text.
+    Listed,
+    /// `greedy`: always the one that leaves the fewest open ends.
+    Greedy,
+    /// The numbers of the items, from 1. That each is there once isn't known yet.
+    Given(NumberList),
+}
+
+/// The order that the value of `--order` says, or that is taken without the option.
+pub(crate) fn read_order(alloc: Global, value: Option<&str>) -> Result<OrderWord, WordsFault>
+    ensures order { IfOk result (λ order. order_of (option_map (λ s. s.now) value.entry) ≡ Ok order) }
+    ensures fault { IfErr result (λ fault. fault ≢ Memory → order_of (option_map (λ s. s.now) value.entry) ≡ Err fault) }
+{
+    let Some(text) = value else {
+        return Ok(OrderWord::Listed);
+    };
+    match text {
+        "listed" => Ok(OrderWord::Listed),
+        "greedy" => Ok(OrderWord::Greedy),
+        _ => match read_list(alloc, text)? {
+            Some(list) => Ok(OrderWord::Given(list)),
+            None => Err(WordsFault::List {
+                option: OptionName::Order,
+            }),
+        },
+    }
+}

@@ -1,0 +1,5 @@
+pub mod ProgramLemmas
+pub mod MatchedLemmas
+pub mod WordsLemmas
+pub mod OnLiterals
+mod Examples

@@ -1,0 +1,103 @@
+//! Worked rows: words, and the parts that `clap` takes from them.
+
+use crate::{PartsFault, command_line, read_words};
+use std::test::Fail;
+
+/// A command, its numbers, the values of `--colors`, `--framing`, `--workers` and `--order`, and whether
+/// `--turns` is given.
+type Wanted = (
+    &'static str,
+    &'static [&'static str],
+    [Option<&'static str>; 4],
+    bool,
+);
+
+/// No option has a value.
+const BARE: [Option<&str>; 4] = [None; 4];
+
+/// Words in any order that is taken, and their parts.
+const TAKEN: [(&[&str], Wanted); 7] = [
+    (
+        &["bracket", "41", "2", "5"],
+        ("bracket", &["41", "2", "5"], BARE, false),
+    ),
+    (
+        &["--turns", "bracket", "41", "2", "--order=3,1,2", "5"],
+        (
+            "bracket",
+            &["41", "2", "5"],
+            [None, None, None, Some("3,1,2")],
+            true,
+        ),
+    ),
+    (
+        &[
+            "wrt",
+            "41",
+            "--framing=-1",
+            "--colors=",
+            "--workers",
+            "4",
+            "2",
+        ],
+        (
+            "wrt",
+            &["41", "2"],
+            [Some(""), Some("-1"), Some("4"), None],
+            false,
+        ),
+    ),
+    (&["torus"], ("torus", &[], BARE, false)),
+    (&["help"], ("help", &[], BARE, false)),
+    (&["", "", "-"], ("", &["", "-"], BARE, false)),
+    (
+        &["bracket", "--", "41", "-2", "--turns"],
+        ("bracket", &["41", "-2", "--turns"], BARE, false),
+    ),
+];
+
+/// Words that `clap` doesn't take.
+const REFUSED: [&[&str]; 12] = [
+    &[],
+    &["--turns"],
+    &["--help"],
+    &["-h"],
+    &["--version"],
+    &["bracket", "41", "2", "5", "--help"],
+    &["bracket", "41", "2", "5", "--even"],
+    &["bracket", "41", "2", "-5"],
+    &["bracket", "41", "2", "5", "--order"],
+    &["bracket", "41", "2", "5", "--order=1", "--order=1"],
+    &["bracket", "41", "2", "5", "--turns", "--turns"],
+    &["bracket", "41", "2", "5", "--turns=true"],
+];
+
+#[test]
+fn taken_words_have_their_parts(rt: HostRuntime) -> Result<(), Fail> {
+    for (words, wanted) in TAKEN {
+        let line = command_line(rt.alloc(), words)?;
+        let parts = match read_words(rt.alloc(), &line) {
+            Ok(parts) => parts,
+            Err(fault) => return Err(fault.into()),
+        };
+        let (command, numbers, options, turns) = wanted;
+        assert_eq!(rt; parts.command, command);
+        assert_eq!(rt; parts.numbers.as_slice(), numbers);
+        assert_eq!(rt;
+            [parts.colors, parts.framing, parts.workers, parts.order],
+            options
+        );
+        assert_eq!(rt; parts.turns, turns);
+    }
+    Ok(())
+}
+
+#[test]
+fn other_words_are_refused(rt: HostRuntime) -> Result<(), Fail> {
+    for words in REFUSED {
+        let line = command_line(rt.alloc(), words)?;
+        let refused = matches!(read_words(rt.alloc(), &line), Err(PartsFault::Refused));
+        assert!(rt; refused);
+    }
+    Ok(())
+}
