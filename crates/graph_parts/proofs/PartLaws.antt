@@ -89,7 +89,8 @@ same_edges names es fs p q h k =
     ∙ sym (part_count-labels names fs q)
 
 -- ---- other names
-within_labels : (l : ℕ → ℕ) (names others : List ℕ) → ((x : ℕ) → is_member ◌==◌ names x ≡ true → is_member ◌==◌ others x ≡ true) → AllPass (is_member ◌==◌ (map l others)) (map l names)
+-- the labels of a part of the names are among the labels of all
+pub within_labels : (l : ℕ → ℕ) (names others : List ℕ) → ((x : ℕ) → is_member ◌==◌ names x ≡ true → is_member ◌==◌ others x ≡ true) → AllPass (is_member ◌==◌ (map l others)) (map l names)
 within_labels l names others h =
     All-map (λ z. is_member ◌==◌ (map l others) z ≡ true) l names
     (All-weaker (λ x. is_member ◌==◌ names x ≡ true) (λ x. is_member ◌==◌ (map l others) (l x) ≡ true) (λ x m. is_member-map l others x (h x m)) names (is_member-itself names))

@@ -52,7 +52,8 @@ pub alone : (inside : ℕ → Bool) (es : List (ℕ × ℕ)) → EndsAre inside 
 alone inside es p x y out h = ⊎_elim (λ e. e) (λ q. absurd (let t = q.0 in grind (arith, t, out))) (inside-from_Joined inside es p (Joined-from_labels es x y h))
 
 -- ---- the names of the rest add as many labels to the nodes' names as to the open ones
-member_label : (l : ℕ → ℕ) (y : ℕ) (zs : List ℕ) → ((z : ℕ) → is_member ◌==◌ zs z ≡ true → l y ≡ l z → ⊥) → is_member ◌==◌ (map l zs) (l y) ≡ false
+-- a label that differs from each of theirs is none of theirs
+pub member_label : (l : ℕ → ℕ) (y : ℕ) (zs : List ℕ) → ((z : ℕ) → is_member ◌==◌ zs z ≡ true → l y ≡ l z → ⊥) → is_member ◌==◌ (map l zs) (l y) ≡ false
 member_label l y [] h = refl
 member_label l y (z ∷ zs) h =
     let ih = member_label l y zs (λ w m. h w (or_right (w == z) (is_member ◌==◌ zs w) m)) in
@@ -109,7 +110,8 @@ in_zip f x (y ∷ xs) m =
     (λ n. let c = in_zip f x xs n in (suc c.0, omega (arith, c.1), c.2))
     (or_cases (x == y) (is_member ◌==◌ xs x) m)
 
-keeps_Joined : (l : ℕ → ℕ) (es : List (ℕ × ℕ)) → All (λ e. l e.0 ≡ l e.1) es → {u v : ℕ} → Joined es u v → l u ≡ l v
+-- a labelling that each edge keeps is kept by walks
+pub keeps_Joined : (l : ℕ → ℕ) (es : List (ℕ × ℕ)) → All (λ e. l e.0 ≡ l e.1) es → {u v : ℕ} → Joined es u v → l u ≡ l v
 keeps_Joined l es a (along {x = u} {y = v} h) = let at = a h.0 (u, v) h.1 in rw h.2 at at
 keeps_Joined l es a stay = refl
 keeps_Joined l es a (back h) = sym (keeps_Joined l es a h)

@@ -13,7 +13,7 @@ use Rattle.graph_parts.proofs.Ends.{is_member-itself}
 use Rattle.state_sums.specs.LocalSums.{IsCut, open_of}
 use Rattle.state_sums.specs.Networks.{Node, names_of, times_in}
 
-times_of_member : (x : ℕ) (xs : List ℕ) → is_member ◌==◌ xs x ≡ true → 1 ≤ times_in xs x
+pub times_of_member : (x : ℕ) (xs : List ℕ) → is_member ◌==◌ xs x ≡ true → 1 ≤ times_in xs x
 times_of_member x [] m = absurd (grind (arith, m))
 times_of_member x (y ∷ xs) m =
     let ih = times_of_member x xs in let e = sum_by-cons (λ z. cond (x == z) 1 0) y xs in grind (arith, nat_tests, ih, e, m)
