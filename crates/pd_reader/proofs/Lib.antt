@@ -1,5 +1,5 @@
 pub mod Least
-pub mod Labels
+pub mod ItemLabels
 pub mod ItemCalls
 pub mod TextTokens
 pub mod StopLemmas

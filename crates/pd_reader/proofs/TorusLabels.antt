@@ -12,7 +12,7 @@ use Rattle.pd_reader.specs.declared.item.Item.TheVariants as items
 use Rattle.pd_reader.specs.Items.{item_labels, HasItsSlots}
 use Rattle.pd_reader.specs.Diagrams.{times, labels, IsLabel, IsDiagram}
 use Rattle.pd_reader.specs.Torus.{torus_crossing, torus_front, torus_items}
-use Rattle.pd_reader.proofs.Labels.{labels-push, All-push}
+use Rattle.pd_reader.proofs.ItemLabels.{labels-push, All-push}
 
 -- a label counts once at itself
 abbrev is_at : ℕ → ℕ → ℕ

@@ -11,6 +11,7 @@
 -- For X[1,1,1,2] the least label that doesn't stand twice is 1, which stands three times.
 use Rattle.std.specs.Prelude.{◌≡◌, ℕ, ◌≤◌, ◌==◌, not, cond, nat_lt, min, List, [], ◌∷◌, ◌++◌, length, count_by, filter, Option, Some, None, option_map, unwrap_or}
 use Rattle.std.specs.List.{AllByRecursion}
+use Rattle.pd_reader.specs.declared.diagram.TheConstants.{MOST_ITEMS}
 use Rattle.pd_reader.specs.declared.item.Item.{Item}
 use Rattle.pd_reader.specs.declared.item.NetItem.{NetItem}
 use Rattle.pd_reader.specs.declared.fault.DiagramFault.{DiagramFault}
@@ -44,12 +45,12 @@ module _ {I : Type 0} (labels_of : I → List ℕ) where
   -- why the items are no diagram
   abbrev pub refusal : List I → Option DiagramFault
   refusal items =
-      cond (nat_lt 256 (length items)) (Some (faults.TooMany 256))
+      cond (nat_lt MOST_ITEMS (length items)) (Some (faults.TooMany MOST_ITEMS))
       (option_map (λ label. faults.Label label (times label (labels items))) (least_unpaired (labels items)))
 
   -- at most 256 items, each of its kind's size, with labels in range, each of which stands twice
   pub record IsPaired (HasItsSize : I → Type 0) (items : List I) : Type 0 where
-    pub few : length items ≤ 256
+    pub few : length items ≤ MOST_ITEMS
     pub sizes : AllByRecursion HasItsSize items
     pub in_range : AllByRecursion IsLabel (labels items)
     pub twice : AllByRecursion (λ label. times label (labels items) ≡ 2) (labels items)

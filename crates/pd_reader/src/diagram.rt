@@ -34,7 +34,7 @@ impl Model for Diagram {
 }
 
 /// The most items of a diagram or a net.
-const MOST_ITEMS: usize = 256;
+pub const MOST_ITEMS: u32 = 256;
 
 /// The first reason why the items are no diagram, of labels that are in range.
 fn check_items<I: Labelled>(alloc: Global, items: &[I]) -> Result<(), DiagramFault>
@@ -42,8 +42,8 @@ fn check_items<I: Labelled>(alloc: Global, items: &[I]) -> Result<(), DiagramFau
     ensures ok { OnOk result (refusal I.labels items.now ≡ None) }
     ensures err { IfErr result (λ fault. (fault ≡ DiagramFault.Memory) ⊎ (refusal I.labels items.now ≡ Some fault)) }
 {
-    if items.len() > MOST_ITEMS {
-        return Err(DiagramFault::TooMany { limit: 256 });
+    if items.len() > MOST_ITEMS as usize {
+        return Err(DiagramFault::TooMany { limit: MOST_ITEMS });
     }
     let labels = labels(alloc, items)?;
     match unpaired(&labels) {

@@ -43,9 +43,11 @@ impl fmt::Display for Item {
 }
 
 /// What labels stand at: a crossing has four, a vertex three, and a loop its label twice.
-pub(crate) trait Labelled {
+pub trait Labelled {
+    /// The labels that stand at it, once for each standing.
     ghost labels: { Self → List ℕ };
 
+    /// It has as many slots or edges as its kind has.
     ghost has_size: { Self → Type 0 };
 
     /// Puts the labels behind those of `into`.

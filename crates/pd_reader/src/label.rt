@@ -31,8 +31,8 @@ pub(crate) fn unpaired(labels: &[u32]) -> Option<(u32, usize)>
     Some((label, times(labels, label)))
 }
 
-/// The labels of the items, one item after the other.
-pub(crate) fn labels<I: Labelled>(alloc: Global, items: &[I]) -> Result<Vec<u32>, AllocError>
+/// The labels of the items, one item after the other, once for each standing: a loop's stands twice.
+pub fn labels<I: Labelled>(alloc: Global, items: &[I]) -> Result<Vec<u32>, AllocError>
     ensures items { IfOk result (λ found. found.items ≡ labels I.labels items.now) }
     ensures few { IfOk result (λ found. vec_len found ≤ 4 * length items.now) }
     ensures sized { OnOk result (AllByRecursion I.has_size items.now) }

@@ -3,7 +3,7 @@
 ghost use Rattle.std.specs.Prelude.{◌≡◌, ◌≤◌, IfOk};
 ghost use Rattle.pd_reader.specs.Torus.{torus_items};
 
-use crate::diagram::Diagram;
+use crate::diagram::{Diagram, MOST_ITEMS};
 use crate::item::Item;
 use std::alloc::{AllocError, Global};
 
@@ -11,7 +11,7 @@ use std::alloc::{AllocError, Global};
 /// the last one X[2n, 2, 1, 2n-1] (this project's own numbering).
 pub fn torus(alloc: Global, n: u32) -> Result<Diagram, AllocError>
     requires least { 1 ≤ n }
-    requires most { n ≤ 256 }
+    requires most { n ≤ MOST_ITEMS }
     ensures { IfOk result (λ diagram. diagram ≡ torus_items n) }
 {
     let mut items = Vec::new(alloc);

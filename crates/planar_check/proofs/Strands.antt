@@ -13,7 +13,7 @@ use Rattle.pd_reader.specs.declared.item.Item.{Item}
 use Rattle.pd_reader.specs.declared.item.Item.TheVariants as items
 use Rattle.pd_reader.specs.Items.{item_labels, HasItsSlots}
 use Rattle.pd_reader.specs.Diagrams.{labels}
-use Rattle.pd_reader.proofs.Labels.{labels-push}
+use Rattle.pd_reader.proofs.ItemLabels.{labels-push}
 use Rattle.std.proofs.lemmas.List.{take_more}
 use Rattle.graph_parts.specs.Renaming.{renamed}
 use Rattle.std.proofs.lemmas.List.{map-append}

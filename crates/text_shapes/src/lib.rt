@@ -2,4 +2,6 @@
 //! beginning of one, and the lemmas with which each reader is proved.
 #![tactic(auto)]
 
-pub mod laws;
+mod laws;
+
+pub use laws::numbers_are_numerals;

@@ -1,5 +1,5 @@
 use Rattle.pd_reader.specs.Items.{item_labels, net_item_labels, HasItsSlots, HasItsEdges}
-use Rattle.pd_reader.proofs.Labels.{paired_is_unrefused}
+use Rattle.pd_reader.proofs.ItemLabels.{paired_is_unrefused}
 use Rattle.pd_reader.proofs.laws.diagrams_are_unrefused.Goals as goal
 
 pub returns : goal.returns

@@ -1,5 +1,5 @@
 use Rattle.pd_reader.specs.Items.{net_item_labels, HasItsEdges}
-use Rattle.pd_reader.proofs.Labels.{unrefused_is_paired}
+use Rattle.pd_reader.proofs.ItemLabels.{unrefused_is_paired}
 use Rattle.pd_reader.proofs.diagram.NetDiagram.new.Goals as goal
 
 pub invariant_of-result : goal.invariant_of-result
