@@ -1,9 +1,9 @@
 -- Matrices that agree in the places below n: so do what the elimination makes of them and the tests on what it forms.
 -- Every definition of the elimination reads entries below n alone, so each lemma names those that it reads.
-use Rattle.std.proofs.Common.{◌≡◌, ℕ, zero, suc, ◌+◌, ◌-◌, ◌<◌, ◌≤◌, Bool, true, false, not, ◌&&◌, ◌||◌, Option, Some, None, cond, eqb, ltb, refl, subst, ap, ap₂, ◌∙◌, arith}
+use Rattle.std.proofs.Common.{◌≡◌, ℕ, zero, suc, ◌+◌, ◌-◌, ◌<◌, ◌≤◌, Bool, true, false, not, ◌&&◌, ◌||◌, Option, Some, None, cond, eqb, refl, subst, ap, ap₂, ◌∙◌, arith}
 use Rattle.inertia_laws.specs.Matrices.{is_zero}
 use Rattle.inertia_laws.specs.Fractions.{Fraction}
-use Rattle.inertia_laws.specs.Elimination.{State, exchanged, exchange, add_column, add_row, take_row, add_place, is_met, is_cleared, clear_matrix, clear_columns, gathered, clear, first_from, or_added, or_exchanged, prepared, finished, step}
+use Rattle.inertia_laws.specs.Elimination.{State, exchanged, exchange, add_column, add_row, take_row, add_place, clear_matrix, clear_columns, gathered, clear, first_from, or_added, or_exchanged, prepared, finished, step}
 use Rattle.inertia_laws.specs.Range.{every, every_place, add_column_fits, add_row_fits, take_row_fits, add_place_fits, clear_matrix_fits, clear_columns_fits, gather_place_fits, gather_fits, clear_fits, added_fits, exchanged_fits, prepared_fits, finished_fits, step_fits}
 use Rattle.inertia_laws.specs.Agreement.{Agree, AgreeAll}
 use Rattle.inertia_laws.proofs.Moves.{exchanged_below}
@@ -36,12 +36,6 @@ first_from-below (suc count) i n f fit =
     elim (f i) as (λ v. IsBelow n (cond v (Some i) (first_from count (suc i) f))) [ true ↦ omega arith | false ↦ first_from-below count (suc i) n f (omega arith) ]
 
 module _ (n k : ℕ) (hk : k < n) (x y : ℕ → ℕ → Fraction) (h : Agree n x y) where
-  cleared-agree : (j : ℕ) → j < n → is_cleared k x j ≡ is_cleared k y j
-  cleared-agree j hj = ap (λ u. ltb k j && not (is_zero u.num)) (h k j hk hj)
-
-  met-agree : (i : ℕ) → i < n → is_met k x i ≡ is_met k y i
-  met-agree i hi = ap (λ u. ltb k i && not (is_zero u.num)) (h i k hi hk)
-
   pub clear_matrix-agree : Agree n (clear_matrix k x) (clear_matrix k y)
   clear_matrix-agree i j hi hj =
       let here = h i j hi hj in
@@ -242,6 +236,3 @@ AgreeAll-trans h g = record {
   p = λ i j hi hj. h.p i j hi hj ∙ g.p i j hi hj;
   q = λ i j hi hj. h.q i j hi hj ∙ g.q i j hi hj;
 }
-
-pub AgreeAll-refl : {n : ℕ} {s : State} → AgreeAll n s s
-AgreeAll-refl = record { m = λ i j hi hj. refl; p = λ i j hi hj. refl; q = λ i j hi hj. refl }

@@ -5,10 +5,11 @@ use Rattle.ring_identities.proofs.Integers.{times_zero, zero_times, times_one, o
 use Rattle.inertia_laws.specs.Matrices.{total, count, single, product, transpose, is_zero, is_positive, is_negative}
 use Rattle.inertia_laws.specs.Certificates.{bordered}
 use Rattle.inertia_laws.specs.Inertia.{Diagonalises, positive_count, negative_count, zero_count}
-use Rattle.inertia_laws.proofs.Totals.{total_agree, total_none}
+use Rattle.inertia_laws.proofs.Totals.{total_agree, total_none, single_other}
 use Rattle.inertia_laws.proofs.Signs.{positive_times, positive_times_negative, zero_of_times}
 use Rattle.inertia_laws.proofs.Values.{not_zero}
-use Rattle.inertia_laws.proofs.Sylvester.{sylvester, single_other, count_agree}
+use Rattle.inertia_laws.proofs.Sylvester.{sylvester}
+use Rattle.inertia_laws.proofs.Counts.{count_agree}
 
 abbrev pub longer : ℕ → ℤ → (ℕ → ℤ) → ℕ → ℤ
 longer n e d i = cond (eqb i n) e (d i)

@@ -8,7 +8,7 @@ use Rattle.inertia_laws.specs.Fractions.{Fraction, whole, AreEqual, gcd, reduce,
 use Rattle.inertia_laws.specs.Certificates.{identity, IsCertificate}
 use Rattle.inertia_laws.specs.Agreement.{Agree}
 use Rattle.inertia_laws.specs.Checking.{summed, product_entry, image_entry, congruence_entry, diagonal_matrix}
-use Rattle.inertia_laws.proofs.Values.{Means, Means-plus, Means-add, Means-times, Means-multiply, Means-scaled, Means-eq, Means-zero, equal_by_value, both_positive, gcd_is}
+use Rattle.inertia_laws.proofs.Values.{Means, Means-itself, Means-plus, Means-add, Means-times, Means-multiply, Means-scaled, Means-eq, Means-zero, equal_by_value, both_positive, gcd_is}
 use Rattle.inertia_laws.proofs.Terms.{lowest_terms}
 use Rattle.inertia_laws.proofs.Unique.{lowest_unique}
 
@@ -21,9 +21,6 @@ pub record Same (x y : Fraction) : Type 0 where
 means : {x y : Fraction} → Same x y → Means x y.num y.den
 means h = record { den_positive = h.x_positive; over_positive = h.y_positive; is = h.equal }
 
-self_means : (y : Fraction) → is_positive y.den ≡ true → Means y y.num y.den
-self_means y e = record { den_positive = e; over_positive = e; is = refl }
-
 same_by_value : {x y : Fraction} {a d : ℤ} → Means x a d → Means y a d → Same x y
 same_by_value h g = record { x_positive = h.den_positive; y_positive = g.den_positive; equal = equal_by_value h g }
 
@@ -34,21 +31,21 @@ pub Same-trans : {x y z : Fraction} → Same x y → Same z y → Same x z
 Same-trans h g = same_by_value (means h) (means g)
 
 pub Same-times : {x y z w : Fraction} → Same x y → Same z w → Same (times x z) (multiply y w)
-Same-times {x} {y} {z} {w} h g = same_by_value (Means-times (means h) (means g)) (Means-multiply (self_means y h.y_positive) (self_means w g.y_positive))
+Same-times {x} {y} {z} {w} h g = same_by_value (Means-times (means h) (means g)) (Means-multiply (Means-itself y h.y_positive) (Means-itself w g.y_positive))
 
 pub Same-plus : {x y z w : Fraction} → Same x y → Same z w → Same (plus x z) (add y w)
 Same-plus {x} {y} {z} {w} h g =
     let over : w.den *ℤ y.den ≡ y.den *ℤ w.den = times_comm w.den y.den in
     same_by_value
     (Means-plus (Means-eq refl over (Means-scaled w.den g.y_positive (means h))) (Means-scaled y.den h.y_positive (means g)))
-    (Means-add (Means-eq refl over (Means-scaled w.den g.y_positive (self_means y h.y_positive))) (Means-scaled y.den h.y_positive (self_means w g.y_positive)))
+    (Means-add (Means-eq refl over (Means-scaled w.den g.y_positive (Means-itself y h.y_positive))) (Means-scaled y.den h.y_positive (Means-itself w g.y_positive)))
 
 zero_and : (a : ℤ) → a ≡ pos 0 +ℤ a
 zero_and a = omega (arith, ints)
 
 -- the first term, and 0 plus it
 first_term : {x y : Fraction} → Same x y → Same x (add (whole (pos 0)) y)
-first_term {x} {y} h = same_by_value (Means-eq (zero_and (y.num)) refl (means h)) (Means-add (Means-zero y.den h.y_positive) (self_means y h.y_positive))
+first_term {x} {y} h = same_by_value (Means-eq (zero_and (y.num)) refl (means h)) (Means-add (Means-zero y.den h.y_positive) (Means-itself y h.y_positive))
 
 pub Same-summed : (n : ℕ) (f g : ℕ → Fraction) → ((k : ℕ) → k ≤ n → Same (f k) (g k)) → Same (summed n f) (total_fraction (suc n) g)
 Same-summed zero f g h = first_term (h 0 (omega arith))

@@ -2,7 +2,7 @@
 use Rattle.std.proofs.Common.{◌≡◌, ℕ, zero, suc, ◌<◌, ◌≤◌, ◌≢◌, [], ◌∷◌, ℤ, pos, ◌+ℤ◌, ◌-ℤ◌, ◌*ℤ◌, neg_ℤ, Bool, true, false, not, ◌&&◌, cond, eqb, ltb, refl, sym, ap, ap₂, subst, ◌∙◌, arith}
 use Rattle.std.proofs.lemmas.Bool.{eqb-true, eqb-false, ne_eqb, eq-eqb, true≢false, ltb-true, ltb-false, not-false}
 use Rattle.ring_identities.proofs.Identities.{reads, by_ring}
-use Rattle.ring_identities.proofs.Integers.{times_zero, zero_times, times_comm, times_assoc, plus_zero}
+use Rattle.ring_identities.proofs.Integers.{plus_assoc, times_zero, zero_times, times_comm, times_assoc, plus_zero}
 use Rattle.inertia_laws.specs.Matrices.{total, single, product, is_zero, is_positive, is_negative}
 use Rattle.inertia_laws.specs.Fractions.{whole, plus, minus, times, ratio}
 use Rattle.inertia_laws.specs.Elimination.{State, is_met, is_cleared, clear_matrix, clear_columns, gathered, clear}
@@ -23,17 +23,11 @@ vanish_plain x y = by_ring (x ∷ y ∷ []) (search reads depth 30) (search read
 vanish_signed : (x y : ℤ) → neg_ℤ y *ℤ x +ℤ neg_ℤ (neg_ℤ x) *ℤ y ≡ pos 0
 vanish_signed x y = by_ring (x ∷ y ∷ []) (search reads depth 30) (search reads depth 30) refl
 
-two_times : (v a w : ℤ) → v *ℤ v *ℤ a ≡ v *ℤ (v *ℤ a +ℤ pos 0) +ℤ w *ℤ pos 0
-two_times v a w = by_ring (v ∷ a ∷ w ∷ []) (search reads depth 30) (search reads depth 30) refl
-
 once_more : (v z w : ℤ) → v *ℤ z ≡ v *ℤ z +ℤ w *ℤ pos 0
 once_more v z w = by_ring (v ∷ z ∷ w ∷ []) (search reads depth 30) (search reads depth 30) refl
 
 twice_negative : (x : ℤ) → neg_ℤ (neg_ℤ x) ≡ x
 twice_negative x = by_ring (x ∷ []) (search reads depth 30) (search reads depth 30) refl
-
-joined : (a b c : ℤ) → a +ℤ b +ℤ c ≡ a +ℤ (b +ℤ c)
-joined a b c = by_ring (a ∷ b ∷ c ∷ []) (search reads depth 30) (search reads depth 30) refl
 
 column_step : (v x w d y : ℤ) → v *ℤ (v *ℤ x +ℤ pos 0 *ℤ y) +ℤ w *ℤ (v *ℤ d +ℤ pos 0 *ℤ d) ≡ v *ℤ (v *ℤ x +ℤ w *ℤ d)
 column_step v x w d y = by_ring (v ∷ x ∷ w ∷ d ∷ y ∷ []) (search reads depth 30) (search reads depth 30) refl
@@ -133,7 +127,7 @@ module _ (n : ℕ) (l : ℕ → ℕ → ℤ) (k : ℕ) (s : State) (h : Reached 
       elim (is_cleared k s.m c) as (λ w. is_cleared k s.m c ≡ w →
       Means (cond w (plus (gathered k s.m s.q b c) (times (ratio (s.m k c) (s.m k k)) (s.q c b))) (gathered k s.m s.q b c)) (v *ℤ h.q k b +ℤ (total c (λ t. neg_ℤ (u t) *ℤ h.q t b) +ℤ neg_ℤ (u c) *ℤ h.q c b)) (v *ℤ h.oq)) [
         | true ↦ λ e. Means-eq
-            (joined (v *ℤ h.q k b) (total c (λ t. neg_ℤ (u t) *ℤ h.q t b)) (signed sign (h.m k c) *ℤ h.q c b)
+            (plus_assoc (v *ℤ h.q k b) (total c (λ t. neg_ℤ (u t) *ℤ h.q t b)) (signed sign (h.m k c) *ℤ h.q c b)
             ∙ ap (λ w. v *ℤ h.q k b +ℤ (total c (λ t. neg_ℤ (u t) *ℤ h.q t b) +ℤ w *ℤ h.q c b)) (sym (ap neg_ℤ (u_other c (cleared_other c e)) ∙ twice_negative (signed sign (h.m k c))))) refl
             (Means-plus so_far (Means-times (ratio_means c hc) (h.q_means c b hc hb)))
         | false ↦ λ e. Means-eq

@@ -6,11 +6,12 @@ use Rattle.inertia_laws.specs.Matrices.{product, is_zero, is_positive, is_negati
 use Rattle.inertia_laws.specs.Fractions.{Fraction}
 use Rattle.inertia_laws.specs.Inertia.{Diagonalises}
 use Rattle.inertia_laws.specs.Certificates.{IsCertificate, positives, negatives, zeros, bordered}
-use Rattle.inertia_laws.proofs.Values.{Means, Means-whole, Means-scaled, Means-eq, Means-multiply, Means-total, same_value, both_positive, not_zero, zero_by_value, positive_by_value, negative_by_value}
+use Rattle.inertia_laws.proofs.Values.{Means, Means-itself, Means-whole, Means-scaled, Means-eq, Means-multiply, Means-total, same_value, both_positive, not_zero, zero_by_value, positive_by_value, negative_by_value}
 use Rattle.inertia_laws.proofs.Moves.{single_flip}
-use Rattle.inertia_laws.proofs.Sylvester.{sylvester, count_agree}
+use Rattle.inertia_laws.proofs.Sylvester.{sylvester}
 use Rattle.inertia_laws.proofs.Border.{border_counts}
 use Rattle.inertia_laws.proofs.Eliminated.{unit_over, diagonal_over}
+use Rattle.inertia_laws.proofs.Counts.{count_agree}
 
 -- whole numbers over one denominator
 record Common (n : ℕ) (f : ℕ → Fraction) : Type 0 where
@@ -18,9 +19,6 @@ record Common (n : ℕ) (f : ℕ → Fraction) : Type 0 where
   over_positive : is_positive over ≡ true
   a : ℕ → ℤ
   means : (i : ℕ) → i < n → Means (f i) (a i) over
-
-itself : (x : Fraction) → is_positive x.den ≡ true → Means x x.num x.den
-itself x e = record { den_positive = e; over_positive = e; is = refl }
 
 common : (n : ℕ) (f : ℕ → Fraction) → ((i : ℕ) → i < n → is_positive (f i).den ≡ true) → Common n f
 common zero f h = record { over = pos 1; over_positive = refl; a = λ i. pos 0; means = λ i below. absurd (omega arith) }
@@ -35,7 +33,7 @@ common (suc n) f h =
       means = λ i below.
           elim (eqb i n) as (λ b. eqb i n ≡ b → Means (f i) (cond b (c.over *ℤ (f n).num) ((f n).den *ℤ c.a i)) ((f n).den *ℤ c.over)) [
             | true ↦ λ e. subst (λ t. Means (f t) (c.over *ℤ (f n).num) ((f n).den *ℤ c.over)) (sym (eqb-true i n e))
-                (Means-eq refl (times_comm c.over (f n).den) (Means-scaled c.over c.over_positive (itself (f n) den)))
+                (Means-eq refl (times_comm c.over (f n).den) (Means-scaled c.over c.over_positive (Means-itself (f n) den)))
             | false ↦ λ e. let other : i ≢ n = eqb-false i n e in Means-scaled (f n).den den (c.means i (omega arith))
           ] refl;
     }
@@ -65,15 +63,15 @@ common_matrix (suc k) n f h =
     }
 
 -- the whole numbers of a certificate
-record Cleared (n : ℕ) (l : ℕ → ℕ → ℤ) (diagonal : ℕ → Fraction) : Type 0 where
-  p : ℕ → ℕ → ℤ
-  q : ℕ → ℕ → ℤ
-  d : ℕ → ℤ
-  over : ℤ
-  means : (i : ℕ) → i < n → Means (diagonal i) (d i) over
-  diagonalises : Diagonalises n l p q d
+pub record Cleared (n : ℕ) (l : ℕ → ℕ → ℤ) (diagonal : ℕ → Fraction) : Type 0 where
+  pub p : ℕ → ℕ → ℤ
+  pub q : ℕ → ℕ → ℤ
+  pub d : ℕ → ℤ
+  pub over : ℤ
+  pub means : (i : ℕ) → i < n → Means (diagonal i) (d i) over
+  pub diagonalises : Diagonalises n l p q d
 
-clear_denominators : (n : ℕ) (l : ℕ → ℕ → ℤ) (p q : ℕ → ℕ → Fraction) (diagonal : ℕ → Fraction) → IsCertificate n l p q diagonal → Cleared n l diagonal
+pub clear_denominators : (n : ℕ) (l : ℕ → ℕ → ℤ) (p q : ℕ → ℕ → Fraction) (diagonal : ℕ → Fraction) → IsCertificate n l p q diagonal → Cleared n l diagonal
 clear_denominators n l p q diagonal h =
     let x : CommonMatrix n n p = common_matrix n n p h.positive_p in
     let y : CommonMatrix n n q = common_matrix n n q h.positive_q in

@@ -9,11 +9,11 @@ use Rattle.inertia_laws.specs.Fractions.{Fraction, whole}
 use Rattle.inertia_laws.specs.Certificates.{IsCertificate}
 use Rattle.inertia_laws.specs.Elimination.{State, start, exchanged, exchange, add_place, clear, first_from, or_added, or_exchanged, prepared, step, steps, eliminated}
 use Rattle.inertia_laws.proofs.Signs.{is_zero_means, zero_of_times}
-use Rattle.inertia_laws.proofs.Sylvester.{single_at}
 use Rattle.inertia_laws.proofs.Values.{Means, Means-whole, Means-scaled, Means-eq, Means-multiply, Means-zero, Means-total, zero_by_value, equal_by_value, both_positive}
 use Rattle.inertia_laws.proofs.Moves.{single_flip}
 use Rattle.inertia_laws.proofs.Steps.{Reached, Reached-start, Reached-exchange, Reached-add, added_pivot}
 use Rattle.inertia_laws.proofs.Clear.{Reached-clear}
+use Rattle.inertia_laws.proofs.Totals.{single_at}
 
 first_cases : (count i : ℕ) (test : ℕ → Bool) (R : Option ℕ → Type 0) →
     ((j : ℕ) → i ≤ j → j < i + count → test j ≡ true → R (Some j)) → (((j : ℕ) → i ≤ j → j < i + count → test j ≡ false) → R None) → R (first_from count i test)

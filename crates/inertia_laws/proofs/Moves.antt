@@ -6,11 +6,8 @@ use Rattle.ring_identities.proofs.Identities.{reads, by_ring}
 use Rattle.ring_identities.proofs.Integers.{times_zero, zero_times, times_comm, times_assoc, one_times, plus_zero}
 use Rattle.inertia_laws.specs.Matrices.{total, dot, single, apply, product, transpose}
 use Rattle.inertia_laws.specs.Elimination.{exchanged}
-use Rattle.inertia_laws.proofs.Totals.{total_agree, total_none, total_plus, total_times, total_exchange, apply_product, dot_apply}
-use Rattle.inertia_laws.proofs.Sylvester.{dot_single}
-
-swapped : (f y z : ℤ) → f *ℤ (y *ℤ z) ≡ y *ℤ (f *ℤ z)
-swapped f y z = by_ring (f ∷ y ∷ z ∷ []) (search reads depth 30) (search reads depth 30) refl
+use Rattle.inertia_laws.proofs.Totals.{total_agree, total_none, total_plus, total_times, total_exchange, apply_product, dot_apply, dot_single}
+use Rattle.inertia_laws.proofs.Values.{swapped}
 
 paired : (v a b : ℤ) → v *ℤ v *ℤ (a *ℤ b) ≡ v *ℤ a *ℤ (v *ℤ b)
 paired v a b = by_ring (v ∷ a ∷ b ∷ []) (search reads depth 30) (search reads depth 30) refl
@@ -57,7 +54,7 @@ bilinear_scaled n c d x y a b h =
     ∙ swapped (a i) d (apply n y b i))
     ∙ total_times n d (λ i. a i *ℤ apply n y b i)
 
-bilinear_symmetric : (n : ℕ) (m : ℕ → ℕ → ℤ) (a b : ℕ → ℤ) → ((i j : ℕ) → i < n → j < n → m i j ≡ m j i) → dot n a (apply n m b) ≡ dot n b (apply n m a)
+pub bilinear_symmetric : (n : ℕ) (m : ℕ → ℕ → ℤ) (a b : ℕ → ℤ) → ((i j : ℕ) → i < n → j < n → m i j ≡ m j i) → dot n a (apply n m b) ≡ dot n b (apply n m a)
 bilinear_symmetric n m a b h =
     total_agree n _ _ (λ k below. sym (total_times n (a k) (λ t. m k t *ℤ b t)))
     ∙ total_exchange n n (λ k t. a k *ℤ (m k t *ℤ b t))

@@ -5,7 +5,7 @@ use Rattle.inertia_laws.specs.Fractions.{Fraction, whole, AreEqual, add, multipl
 use Rattle.inertia_laws.specs.Certificates.{identity, IsCertificate}
 use Rattle.inertia_laws.specs.Agreement.{Agree}
 
-total_fraction-agree : (n : ℕ) (f g : ℕ → Fraction) → ((i : ℕ) → i < n → f i ≡ g i) → total_fraction n f ≡ total_fraction n g
+pub total_fraction-agree : (n : ℕ) (f g : ℕ → Fraction) → ((i : ℕ) → i < n → f i ≡ g i) → total_fraction n f ≡ total_fraction n g
 total_fraction-agree zero f g h = refl
 total_fraction-agree (suc n) f g h =
     let last : n < suc n = omega arith in

@@ -7,8 +7,7 @@ use Rattle.ring_identities.proofs.Integers.{times_zero, zero_times, times_comm, 
 use Rattle.inertia_laws.specs.Matrices.{total, single, product, is_positive}
 use Rattle.inertia_laws.specs.Fractions.{Fraction, whole, plus, minus}
 use Rattle.inertia_laws.specs.Elimination.{State, start, exchanged, exchange, add_column, add_place}
-use Rattle.inertia_laws.proofs.Totals.{total_agree}
-use Rattle.inertia_laws.proofs.Sylvester.{single_other, dot_single}
+use Rattle.inertia_laws.proofs.Totals.{total_agree, single_other, dot_single}
 use Rattle.inertia_laws.proofs.Values.{Means, Means-whole, Means-eq, Means-plus, Means-minus, both_positive}
 use Rattle.inertia_laws.proofs.Moves.{AreMoved, AreMoved-on, single_flip, shear, dot_shear, shear_dot, row_shear, shear_inverse, exchanged_below, exchanged_twice, swap_columns, swap_rows, dot_swap, swap_dot, swap_inverse}
 

@@ -1,30 +1,25 @@
 -- Sylvester's law: two certificates of one matrix have the same counts.
-use Rattle.std.proofs.Common.{◌≡◌, ℕ, zero, suc, ◌+◌, ◌<◌, ◌≢◌, List, [], ◌∷◌, ◌++◌, length, ℤ, pos, negsuc, ◌*ℤ◌, Bool, true, false, not, cond, eqb, refl, sym, ap, ap₂, subst, ◌∙◌, arith}
+--
+-- Let the first have more positive entries than the second. A vector x other than zero is wanted at which Q x is 0 wherever
+-- the first diagonal isn't positive, and the second one's Q x is 0 wherever its diagonal is: these are fewer equations than
+-- unknowns, so there is one (Equations). Then the form of L at x is above 0 by the first certificate, for it is a sum of squares
+-- with positive factors, and not above 0 by the second. The negative entries follow with the sign exchanged, the zeros by counting.
+use Rattle.std.proofs.Common.{◌≡◌, ℕ, zero, suc, ◌<◌, List, [], ◌∷◌, ◌++◌, length, ℤ, pos, negsuc, ◌*ℤ◌, true, false, not, refl, sym, ap, ap₂, ◌∙◌, arith}
 use Rattle.std.proofs.lemmas.Int.{ints}
-use Rattle.std.proofs.lemmas.Bool.{eqb-true, eqb-false, ne_eqb, eq-eqb, true≢false}
+use Rattle.std.proofs.lemmas.Bool.{true≢false}
 use Rattle.std.proofs.lemmas.List.{length-append}
 use Rattle.ring_identities.proofs.Identities.{reads, by_ring}
 use Rattle.ring_identities.proofs.Integers.{times_zero, zero_times, times_assoc}
-use Rattle.inertia_laws.specs.Matrices.{total, count, is_positive, is_negative, is_zero, dot, single, apply, product, transpose}
+use Rattle.inertia_laws.specs.Matrices.{total, count, is_positive, is_negative, is_zero, dot, apply, product, transpose}
 use Rattle.inertia_laws.specs.Inertia.{Diagonalises, positive_count, negative_count, zero_count}
-use Rattle.inertia_laws.proofs.Totals.{total_agree, total_none, total_times, total_single, apply_product, dot_apply}
+use Rattle.inertia_laws.proofs.Totals.{total_agree, total_none, total_times, apply_product, dot_apply}
 use Rattle.inertia_laws.proofs.Signs.{is_zero_means, zero_of_times, positive_times, square_positive, total_not_positive, total_positive, positive_times_negative}
-use Rattle.inertia_laws.specs.Equations.{Solves, Solution}
+use Rattle.inertia_laws.specs.Equations.{Solution}
 use Rattle.inertia_laws.proofs.Equations.{solve}
-
-pub single_at : (i : ℕ) (c : ℤ) → single i c i ≡ c
-single_at i c = ap (λ b. cond b c (pos 0)) (eq-eqb i i refl)
-
-pub single_other : (i k : ℕ) (c : ℤ) → k ≢ i → single i c k ≡ pos 0
-single_other i k c other = ap (λ b. cond b c (pos 0)) (ne_eqb k i other)
-
-pub dot_single : (n i : ℕ) (c : ℤ) (x : ℕ → ℤ) → i < n → dot n (single i c) x ≡ c *ℤ x i
-dot_single n i c x h =
-    total_single n i (λ k. single i c k *ℤ x k) h (λ k below other. ap (λ u. u *ℤ x k) (single_other i k c other) ∙ zero_times (x k))
-    ∙ ap (λ u. u *ℤ x i) (single_at i c)
-
-swapped : (f y z : ℤ) → f *ℤ (y *ℤ z) ≡ y *ℤ (f *ℤ z)
-swapped f y z = by_ring (f ∷ y ∷ z ∷ []) (search reads depth 30) (search reads depth 30) refl
+use Rattle.inertia_laws.proofs.Totals.{dot_single}
+use Rattle.inertia_laws.proofs.Values.{swapped}
+use Rattle.inertia_laws.proofs.Counts.{count_agree, count_not, three_counts}
+use Rattle.inertia_laws.proofs.ChosenRows.{chosen, chosen_length, chosen_solves, solves_left, solves_right}
 
 gathered : (y t d : ℤ) → y *ℤ (t *ℤ d *ℤ y) ≡ t *ℤ (y *ℤ y *ℤ d)
 gathered y t d = by_ring (y ∷ t ∷ d ∷ []) (search reads depth 30) (search reads depth 30) refl
@@ -136,65 +131,6 @@ module _ (n : ℕ) (l p q : ℕ → ℕ → ℤ) (d : ℕ → ℤ) (c : Diagonal
       let image : c.side *ℤ x i ≡ pos 0 = sym (inverse_apply x i below) ∙ total_none n _ (λ k within. ap (λ u. p i k *ℤ u) (zeros k within) ∙ times_zero (p i k)) in
       sym (zero_of_times c.side (x i) c.side_not_zero) ∙ ap is_zero image
 
--- ---- the equations
-abbrev chosen : (ℕ → Bool) → (ℕ → ℕ → ℤ) → ℕ → List (ℕ → ℤ)
-chosen test q zero = []
-chosen test q (suc n) = cond (test n) (q n ∷ chosen test q n) (chosen test q n)
-
-chosen_length : (test : ℕ → Bool) (q : ℕ → ℕ → ℤ) (n : ℕ) → length (chosen test q n) ≡ count n test
-chosen_length test q zero = refl
-chosen_length test q (suc n) =
-    elim (test n) as (λ v. length (cond v (q n ∷ chosen test q n) (chosen test q n)) ≡ count n test + cond v 1 0) [
-      | true ↦ omega (arith, chosen_length test q n)
-      | false ↦ omega (arith, chosen_length test q n)
-    ]
-
-chosen_last : (m : ℕ) (x : ℕ → ℤ) (test : ℕ → Bool) (q : ℕ → ℕ → ℤ) (n : ℕ) → Solves m x (chosen test q (suc n)) → (i : ℕ) → i ≡ n → test i ≡ true → dot m (q i) x ≡ pos 0
-chosen_last m x test q n h i same e =
-    let there : test n ≡ true = ap test (sym same) ∙ e in
-    let whole : Solves m x (q n ∷ chosen test q n) = subst (λ b. Solves m x (cond b (q n ∷ chosen test q n) (chosen test q n))) there h in
-    ap (λ k. dot m (q k) x) same ∙ whole.0
-
-chosen_rest : (m : ℕ) (x : ℕ → ℤ) (test : ℕ → Bool) (q : ℕ → ℕ → ℤ) (n : ℕ) → Solves m x (chosen test q (suc n)) → Solves m x (chosen test q n)
-chosen_rest m x test q n =
-    elim (test n) as (λ b. Solves m x (cond b (q n ∷ chosen test q n) (chosen test q n)) → Solves m x (chosen test q n)) [ true ↦ λ h. h.1 | false ↦ λ h. h ]
-
-chosen_solves : (m : ℕ) (x : ℕ → ℤ) (test : ℕ → Bool) (q : ℕ → ℕ → ℤ) (n : ℕ) → Solves m x (chosen test q n) → (i : ℕ) → i < n → test i ≡ true → dot m (q i) x ≡ pos 0
-chosen_solves m x test q zero h i below e = absurd (omega arith)
-chosen_solves m x test q (suc n) h i below e =
-    elim (eqb i n) as (λ v. eqb i n ≡ v → dot m (q i) x ≡ pos 0) [
-      | true ↦ λ same. chosen_last m x test q n h i (eqb-true i n same) e
-      | false ↦ λ other.
-          let apart : i ≢ n = eqb-false i n other in
-          chosen_solves m x test q n (chosen_rest m x test q n h) i (omega arith) e
-    ] refl
-
-solves_left : (m : ℕ) (x : ℕ → ℤ) (xs ys : List (ℕ → ℤ)) → Solves m x (xs ++ ys) → Solves m x xs
-solves_left m x [] ys h = tt
-solves_left m x (row ∷ xs) ys h = (h.0, solves_left m x xs ys h.1)
-
-solves_right : (m : ℕ) (x : ℕ → ℤ) (xs ys : List (ℕ → ℤ)) → Solves m x (xs ++ ys) → Solves m x ys
-solves_right m x [] ys h = h
-solves_right m x (row ∷ xs) ys h = solves_right m x xs ys h.1
-
-count_not : (n : ℕ) (test : ℕ → Bool) → count n (λ i. not (test i)) + count n test ≡ n
-count_not zero test = refl
-count_not (suc n) test =
-    elim (test n) as (λ v. count n (λ i. not (test i)) + cond (not v) 1 0 + (count n test + cond v 1 0) ≡ suc n) [
-      | true ↦ omega (arith, count_not n test)
-      | false ↦ omega (arith, count_not n test)
-    ]
-
-count_same : (n : ℕ) (test other : ℕ → Bool) → ((i : ℕ) → test i ≡ other i) → count n test ≡ count n other
-count_same zero test other h = refl
-count_same (suc n) test other h = ap₂ (λ u b. u + cond b 1 0) (count_same n test other h) (h n)
-
-pub count_agree : (n : ℕ) (test other : ℕ → Bool) → ((i : ℕ) → i < n → test i ≡ other i) → count n test ≡ count n other
-count_agree zero test other h = refl
-count_agree (suc n) test other h =
-    let last : n < suc n = omega arith in
-    ap₂ (λ u b. u + cond b 1 0) (count_agree n test other (λ i below. h i (omega arith))) (h n last)
-
 -- the first certificate has no more positive entries than the second
 no_more : (n : ℕ) (l p q : ℕ → ℕ → ℤ) (d : ℕ → ℤ) → Diagonalises n l p q d → (p' q' : ℕ → ℕ → ℤ) (d' : ℕ → ℤ) → Diagonalises n l p' q' d' → (e : ℤ) →
     count n (λ i. is_positive (e *ℤ d' i)) < count n (λ i. is_positive (e *ℤ d i)) → ⊥
@@ -227,26 +163,16 @@ same_counts n l p q d c p' q' d' c' e =
     let above = λ (h : count n (λ i. is_positive (e *ℤ d i)) < count n (λ i. is_positive (e *ℤ d' i))). no_more n l p' q' d' c' p q d c e h in
     omega (arith, below, above)
 
-three_counts : (n : ℕ) (d : ℕ → ℤ) → positive_count n d + negative_count n d + zero_count n d ≡ n
-three_counts zero d = refl
-three_counts (suc n) d =
-    elim (d n) as (λ z. positive_count n d + cond (is_positive z) 1 0 + (negative_count n d + cond (is_negative z) 1 0) + (zero_count n d + cond (is_zero z) 1 0) ≡ suc n) [
-      | pos k ↦ elim k as (λ k. positive_count n d + cond (is_positive (pos k)) 1 0 + (negative_count n d + cond (is_negative (pos k)) 1 0) + (zero_count n d + cond (is_zero (pos k)) 1 0) ≡ suc n) [
-        | zero ↦ omega (arith, three_counts n d)
-        | suc m ↦ omega (arith, three_counts n d)
-      ]
-      | negsuc k ↦ omega (arith, three_counts n d)
-    ]
-
+-- SYLVESTER'S LAW
 pub sylvester : (n : ℕ) (l p q : ℕ → ℕ → ℤ) (d : ℕ → ℤ) → Diagonalises n l p q d → (p' q' : ℕ → ℕ → ℤ) (d' : ℕ → ℤ) → Diagonalises n l p' q' d' →
     (positive_count n d ≡ positive_count n d') × (negative_count n d ≡ negative_count n d') × (zero_count n d ≡ zero_count n d')
 sylvester n l p q d c p' q' d' c' =
     let positive : positive_count n d ≡ positive_count n d' =
-    sym (count_same n (λ i. is_positive (pos 1 *ℤ d i)) (λ i. is_positive (d i)) (λ i. one_sign (d i)))
+    sym (count_agree n _ _ (λ i below. one_sign (d i)))
     ∙ same_counts n l p q d c p' q' d' c' (pos 1)
-    ∙ count_same n (λ i. is_positive (pos 1 *ℤ d' i)) (λ i. is_positive (d' i)) (λ i. one_sign (d' i)) in
+    ∙ count_agree n _ _ (λ i below. one_sign (d' i)) in
     let negative : negative_count n d ≡ negative_count n d' =
-    sym (count_same n (λ i. is_positive (negsuc 0 *ℤ d i)) (λ i. is_negative (d i)) (λ i. minus_sign (d i)))
+    sym (count_agree n _ _ (λ i below. minus_sign (d i)))
     ∙ same_counts n l p q d c p' q' d' c' (negsuc 0)
-    ∙ count_same n (λ i. is_positive (negsuc 0 *ℤ d' i)) (λ i. is_negative (d' i)) (λ i. minus_sign (d' i)) in
+    ∙ count_agree n _ _ (λ i below. minus_sign (d' i)) in
     (positive, negative, omega (arith, three_counts n d, three_counts n d', positive, negative))

@@ -1,10 +1,10 @@
 -- Sums of whole numbers over the places below n.
-use Rattle.std.proofs.Common.{◌≡◌, ℕ, zero, suc, ◌<◌, ◌≢◌, [], ◌∷◌, ℤ, pos, ◌+ℤ◌, ◌*ℤ◌, true, false, eqb, refl, sym, ap, ap₂, ◌∙◌, arith}
+use Rattle.std.proofs.Common.{◌≡◌, ℕ, zero, suc, ◌<◌, ◌≢◌, [], ◌∷◌, ℤ, pos, ◌+ℤ◌, ◌*ℤ◌, true, false, cond, eqb, refl, sym, ap, ap₂, ◌∙◌, arith}
 use Rattle.std.proofs.lemmas.Int.{ints}
-use Rattle.std.proofs.lemmas.Bool.{eqb-true, eqb-false}
+use Rattle.std.proofs.lemmas.Bool.{eqb-true, eqb-false, ne_eqb, eq-eqb}
 use Rattle.ring_identities.proofs.Identities.{reads, by_ring}
-use Rattle.ring_identities.proofs.Integers.{times_zero, times_plus, plus_zero, zero_plus, times_comm, times_assoc}
-use Rattle.inertia_laws.specs.Matrices.{total, dot, product, apply, transpose}
+use Rattle.ring_identities.proofs.Integers.{times_zero, zero_times, times_plus, plus_zero, zero_plus, times_comm, times_assoc}
+use Rattle.inertia_laws.specs.Matrices.{total, single, dot, product, apply, transpose}
 
 pub total_agree : (n : ℕ) (f g : ℕ → ℤ) → ((i : ℕ) → i < n → f i ≡ g i) → total n f ≡ total n g
 total_agree zero f g h = refl
@@ -33,7 +33,7 @@ pub total_exchange : (n m : ℕ) (f : ℕ → ℕ → ℤ) → total n (λ i. to
 total_exchange zero m f = sym (total_none m (λ j. pos 0) (λ j below. refl))
 total_exchange (suc n) m f = ap (λ u. u +ℤ total m (f n)) (total_exchange n m f) ∙ sym (total_plus m (λ j. total n (λ i. f i j)) (f n))
 
-rearranged : (p y z : ℤ) → p *ℤ y *ℤ z ≡ y *ℤ (p *ℤ z)
+pub rearranged : (p y z : ℤ) → p *ℤ y *ℤ z ≡ y *ℤ (p *ℤ z)
 rearranged p y z = by_ring (p ∷ y ∷ z ∷ []) (search reads depth 30) (search reads depth 30) refl
 
 -- a sum in which one place counts
@@ -65,3 +65,15 @@ dot_apply n p y z =
     total_agree n _ _ (λ k below. times_total n (z k) (λ i. p k i *ℤ y i) ∙ total_agree n _ _ (λ i within. rearranged (p k i) (y i) (z k)))
     ∙ total_exchange n n (λ k i. y i *ℤ (p k i *ℤ z k))
     ∙ total_agree n _ _ (λ i below. total_times n (y i) (λ k. p k i *ℤ z k))
+
+-- ---- vectors with one place
+pub single_at : (i : ℕ) (c : ℤ) → single i c i ≡ c
+single_at i c = ap (λ b. cond b c (pos 0)) (eq-eqb i i refl)
+
+pub single_other : (i k : ℕ) (c : ℤ) → k ≢ i → single i c k ≡ pos 0
+single_other i k c other = ap (λ b. cond b c (pos 0)) (ne_eqb k i other)
+
+pub dot_single : (n i : ℕ) (c : ℤ) (x : ℕ → ℤ) → i < n → dot n (single i c) x ≡ c *ℤ x i
+dot_single n i c x h =
+    total_single n i (λ k. single i c k *ℤ x k) h (λ k below other. ap (λ u. u *ℤ x k) (single_other i k c other) ∙ zero_times (x k))
+    ∙ ap (λ u. u *ℤ x i) (single_at i c)

@@ -9,6 +9,7 @@ use Rattle.ring_identities.proofs.Identities.{reads, by_ring}
 use Rattle.ring_identities.proofs.Integers.{zero_times, times_comm, times_assoc, times_negative, no_difference}
 use Rattle.inertia_laws.specs.Matrices.{total, is_positive, is_negative, is_zero}
 use Rattle.inertia_laws.specs.Fractions.{Fraction, whole, AreEqual, add, subtract, multiply, divide, gcd_within, gcd, quotient, reduce, plus, minus, times, ratio, total_fraction}
+use Rattle.inertia_laws.proofs.Totals.{rearranged}
 use Rattle.inertia_laws.proofs.Signs.{is_zero_means, zero_of_times, positive_times, positive_times_negative}
 
 opposite : (a : ℤ) → a +ℤ neg_ℤ a ≡ pos 0
@@ -29,14 +30,11 @@ fourth a b xd yd = by_ring (a ∷ b ∷ xd ∷ yd ∷ []) (search reads depth 30
 four : (x y d e : ℤ) → x *ℤ y *ℤ (d *ℤ e) ≡ x *ℤ d *ℤ (y *ℤ e)
 four x y d e = by_ring (x ∷ y ∷ d ∷ e ∷ []) (search reads depth 30) (search reads depth 30) refl
 
-middle : (x c d : ℤ) → x *ℤ (c *ℤ d) ≡ c *ℤ (x *ℤ d)
-middle x c d = by_ring (x ∷ c ∷ d ∷ []) (search reads depth 30) (search reads depth 30) refl
+pub swapped : (x y z : ℤ) → x *ℤ (y *ℤ z) ≡ y *ℤ (x *ℤ z)
+swapped x y z = by_ring (x ∷ y ∷ z ∷ []) (search reads depth 30) (search reads depth 30) refl
 
 arrange : (xd yd a : ℤ) → xd *ℤ yd *ℤ a ≡ a *ℤ xd *ℤ yd
 arrange xd yd a = by_ring (xd ∷ yd ∷ a ∷ []) (search reads depth 30) (search reads depth 30) refl
-
-arrange_again : (xn d yd : ℤ) → xn *ℤ d *ℤ yd ≡ d *ℤ (xn *ℤ yd)
-arrange_again xn d yd = by_ring (xn ∷ d ∷ yd ∷ []) (search reads depth 30) (search reads depth 30) refl
 
 arrange_back : (d yn xd : ℤ) → d *ℤ (yn *ℤ xd) ≡ yn *ℤ d *ℤ xd
 arrange_back d yn xd = by_ring (d ∷ yn ∷ xd ∷ []) (search reads depth 30) (search reads depth 30) refl
@@ -76,6 +74,9 @@ cancel c x y h e =
 pub both_positive : (a b : ℤ) → is_positive a ≡ true → is_positive b ≡ true → is_positive (a *ℤ b) ≡ true
 both_positive a b h g = positive_times a b h ∙ g
 
+pub Means-itself : (x : Fraction) → is_positive x.den ≡ true → Means x x.num x.den
+Means-itself x e = record { den_positive = e; over_positive = e; is = refl }
+
 pub Means-whole : (z : ℤ) → Means (whole z) z (pos 1)
 Means-whole z = record { den_positive = refl; over_positive = refl; is = refl }
 
@@ -110,7 +111,7 @@ pub Means-scaled : {x : Fraction} {a d : ℤ} (c : ℤ) → is_positive c ≡ tr
 Means-scaled {x} {a} {d} c e h = record {
   den_positive = h.den_positive;
   over_positive = both_positive c d e h.over_positive;
-  is = middle x.num c d ∙ ap (λ u. c *ℤ u) h.is ∙ sym (times_assoc c a x.den);
+  is = swapped x.num c d ∙ ap (λ u. c *ℤ u) h.is ∙ sym (times_assoc c a x.den);
 }
 
 pub Means-eq : {x : Fraction} {a b d e : ℤ} → a ≡ b → d ≡ e → Means x a d → Means x b e
@@ -139,12 +140,12 @@ negative_by_value {x} {a} {d} h =
 pub same_value : {x y : Fraction} {a b d : ℤ} → Means x a d → Means y b d → AreEqual x y → a ≡ b
 same_value {x} {y} {a} {b} {d} h g e =
     cancel (x.den *ℤ y.den) a b (not_zero (x.den *ℤ y.den) (both_positive x.den y.den h.den_positive g.den_positive))
-    (arrange x.den y.den a ∙ ap (λ u. u *ℤ y.den) (sym h.is) ∙ arrange_again x.num d y.den ∙ ap (λ u. d *ℤ u) e ∙ arrange_back d y.num x.den ∙ ap (λ u. u *ℤ x.den) g.is ∙ arrange_last b y.den x.den)
+    (arrange x.den y.den a ∙ ap (λ u. u *ℤ y.den) (sym h.is) ∙ rearranged x.num d y.den ∙ ap (λ u. d *ℤ u) e ∙ arrange_back d y.num x.den ∙ ap (λ u. u *ℤ x.den) g.is ∙ arrange_last b y.den x.den)
 
 pub equal_by_value : {x y : Fraction} {a d : ℤ} → Means x a d → Means y a d → AreEqual x y
 equal_by_value {x} {y} {a} {d} h g =
     cancel d (x.num *ℤ y.den) (y.num *ℤ x.den) (not_zero d h.over_positive)
-    (sym (arrange_again x.num d y.den) ∙ ap (λ u. u *ℤ y.den) h.is ∙ swap_last a x.den y.den ∙ ap (λ u. u *ℤ x.den) (sym g.is) ∙ arrange_again y.num d x.den)
+    (sym (rearranged x.num d y.den) ∙ ap (λ u. u *ℤ y.den) h.is ∙ swap_last a x.den y.den ∙ ap (λ u. u *ℤ x.den) (sym g.is) ∙ rearranged y.num d x.den)
 
 -- ---- reduced fractions
 gcd_within_is : (rounds a b : ℕ) → b ≤ rounds → IsGcd a b (gcd_within rounds a b)
@@ -176,7 +177,7 @@ Means-reduce {x} {a} {d} h =
       den_positive = positive.1;
       over_positive = h.over_positive;
       is = cancel (pos g) (quotient x.num g *ℤ d) (a *ℤ quotient x.den g) (not_zero (pos g) positive.0)
-          (sym (times_assoc (pos g) (quotient x.num g) d) ∙ ap (λ u. u *ℤ d) num_is ∙ h.is ∙ ap (λ u. a *ℤ u) (sym den_is) ∙ middle a (pos g) (quotient x.den g));
+          (sym (times_assoc (pos g) (quotient x.num g) d) ∙ ap (λ u. u *ℤ d) num_is ∙ h.is ∙ ap (λ u. a *ℤ u) (sym den_is) ∙ swapped a (pos g) (quotient x.den g));
     }
 
 pub Means-plus : {x y : Fraction} {a b d : ℤ} → Means x a d → Means y b d → Means (plus x y) (a +ℤ b) d
@@ -196,11 +197,6 @@ positive_of_negative : (z : ℤ) → is_positive (neg_ℤ z) ≡ is_negative z
 positive_of_negative (pos zero) = refl
 positive_of_negative (pos (suc n)) = refl
 positive_of_negative (negsuc n) = refl
-
-positive_by_others : (z : ℤ) → is_zero z ≡ false → is_negative z ≡ false → is_positive z ≡ true
-positive_by_others (pos zero) e g = cc
-positive_by_others (pos (suc n)) e g = refl
-positive_by_others (negsuc n) e g = cc
 
 pub signed_positive : (z : ℤ) → is_zero z ≡ false → is_positive (signed (is_negative z) z) ≡ true
 signed_positive (pos zero) e = cc

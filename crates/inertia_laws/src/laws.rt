@@ -1,6 +1,6 @@
 //! The laws of inertia: each function has an empty body, and its contract is the law. They are stated in `specs/Laws.antt`.
 
-ghost use Rattle.inertia_laws.specs.Laws.{EliminationCertifies, SylvesterLaw, BorderCounts, EquationsSolvable, LowestTerms};
+ghost use Rattle.inertia_laws.specs.Laws.{EliminationCertifies, SylvesterLaw, BorderCounts, EquationsSolvable, LowestTerms, CertificateIndices, SizeAlone, CongruenceLaw};
 
 /// The elimination of a symmetric matrix, over fractions of any size, gives a certificate of its inertia.
 pub fn elimination_certifies()
@@ -28,4 +28,21 @@ pub fn equations_solvable()
 /// A reduced fraction is in lowest terms, and has the same value.
 pub fn lowest_terms()
     ensures { LowestTerms }
+{}
+
+/// Each certificate of a symmetric matrix has the matrix's indices b+, b- and nullity as its counts.
+pub fn certificate_indices()
+    ensures { CertificateIndices }
+{}
+
+/// The certificates, the elimination, the step in which it leaves 128 bits and the indices of a matrix depend on its
+/// entries below the size alone.
+pub fn size_alone()
+    ensures { SizeAlone }
+{}
+
+/// Where C of whole numbers has an inverse of whole numbers, a matrix and C-transposed times it times C have certificates
+/// with the same counts, and the same indices.
+pub fn congruence_law()
+    ensures { CongruenceLaw }
 {}
