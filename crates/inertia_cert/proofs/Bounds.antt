@@ -11,31 +11,19 @@ use Rattle.inertia_laws.specs.Fractions.{Fraction, gcd, quotient, reduce}
 use Rattle.inertia_laws.specs.Range.{fits}
 use Rattle.std.proofs.lemmas.Bool.Decides.{nat_tests}
 use Rattle.std.proofs.lemmas.Bool.{true≢false}
-use Rattle.inertia_laws.proofs.Values.{gcd_is, Means, Means-reduce}
+use Rattle.inertia_laws.proofs.Values.{gcd_is, abs_positive, Means-itself, Means-reduce}
 use Rattle.inertia_laws.proofs.Terms.{lowest_terms}
+use Rattle.list_lemmas.proofs.Integers.{abs_negative, factor_positive}
 
 pub quot_is : (z : ℤ) (g : ℕ) → quot_z z (pos g) ≡ quotient z g
 quot_is (pos n) g = refl
 quot_is (negsuc n) g = refl
-
-factor_positive : (q g b : ℕ) → q * g ≡ b → 0 < b → 0 < g
-factor_positive q zero b e h = omega arith
-factor_positive q (suc g) b e h = omega arith
 
 pub gcd_positive : (a b : ℕ) → 0 < b → 0 < gcd a b
 gcd_positive a b h = factor_positive (b / gcd a b) (gcd a b) b (div-mul_cancel (gcd a b) (gcd_is a b).1) h
 
 pub gcd_below : (a b : ℕ) → 0 < b → gcd a b ≤ b
 gcd_below a b h = le_of_dvd h (gcd_is a b).1
-
-pub abs_positive : (z : ℤ) → is_positive z ≡ true → 0 < unsigned_abs z
-abs_positive (pos zero) e = cc
-abs_positive (pos (suc n)) e = omega arith
-abs_positive (negsuc n) e = cc
-
-abs_negative : (n : ℕ) → unsigned_abs (neg_ℤ (pos n)) ≡ n
-abs_negative zero = refl
-abs_negative (suc n) = refl
 
 pub quotient_below : (z : ℤ) (g : ℕ) → unsigned_abs (quotient z g) ≤ unsigned_abs z
 quotient_below (pos n) g = div-le_self n g
@@ -93,8 +81,7 @@ module _ (num den : ℤ) (u v g : ℕ) (range : SFits w128 num) (den_range : SFi
 
   pub made_positive : is_positive (to_z w128 (of_z w128 (quot_z (to_z w128 (of_z w128 den)) (to_z w128 g)))) ≡ true
   made_positive =
-      let self : Means record { num = num; den = den } num den = record { den_positive = positive; over_positive = positive; is = refl } in
-      ap (λ x. is_positive x.den) is_reduced ∙ (Means-reduce self).den_positive
+      ap (λ x. is_positive x.den) is_reduced ∙ (Means-reduce (Means-itself record { num = num; den = den } positive)).den_positive
 
   pub made_lowest : gcd (unsigned_abs (to_z w128 (of_z w128 (quot_z (to_z w128 (of_z w128 num)) (to_z w128 g))))) (unsigned_abs (to_z w128 (of_z w128 (quot_z (to_z w128 (of_z w128 den)) (to_z w128 g))))) ≡ 1
   made_lowest =

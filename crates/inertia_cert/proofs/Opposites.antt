@@ -47,22 +47,9 @@ multiply_reciprocal_fits x y =
       | false ↦ refl
     ]
 
-pub negative_of : (z : ℤ) → z <ℤ pos 0 → is_negative z ≡ true
-negative_of (pos n) h = absurd (omega (arith, ints))
-negative_of (negsuc n) h = refl
-
-pub not_negative_of : (z : ℤ) → pos 0 ≤ℤ z → is_negative z ≡ false
-not_negative_of (pos n) h = refl
-not_negative_of (negsuc n) h = absurd (omega (arith, ints))
-
 pub positive_of_negative : (z : ℤ) → z <ℤ pos 0 → is_positive (neg_ℤ z) ≡ true
 positive_of_negative (pos n) h = absurd (omega (arith, ints))
 positive_of_negative (negsuc n) h = refl
-
-pub positive_of : (z : ℤ) → pos 0 ≤ℤ z → is_zero z ≡ false → is_positive z ≡ true
-positive_of (pos zero) h e = cc
-positive_of (pos (suc n)) h e = refl
-positive_of (negsuc n) h e = absurd (omega (arith, ints))
 
 pub positive_fits : (z : ℤ) → is_positive z ≡ true → FitsSigned w128 z → IsTrue (fits z)
 positive_fits z e h = means_fits z (positive_below z e h)

@@ -5,6 +5,7 @@ use Rattle.inertia_laws.specs.Fractions.{Fraction, plus}
 use Rattle.inertia_laws.specs.Range.{every, add_fits}
 use Rattle.inertia_laws.specs.Checking.{summed, sum_fits}
 use Rattle.inertia_laws.proofs.FirstStep.{every-false}
+use Rattle.list_lemmas.proofs.Bools.{and_false}
 
 pub sum_more : (place : ℕ) (f : ℕ → Fraction) (s : Fraction) → 0 < place → s ≡ summed (pred place) f → plus s (f place) ≡ summed place f
 sum_more zero f s h e = absurd (omega arith)
@@ -13,10 +14,6 @@ sum_more (suc place) f s h e = ap (λ t. plus t (f (suc place))) e
 pub fits_more : (place : ℕ) (f : ℕ → Fraction) (s : Fraction) → 0 < place → s ≡ summed (pred place) f → sum_fits (pred place) f ≡ true → add_fits s (f place) ≡ true → sum_fits place f ≡ true
 fits_more zero f s h e before here = absurd (omega arith)
 fits_more (suc place) f s h e before here = ap₂ (λ u v. u && v) before (ap (λ t. add_fits t (f (suc place))) (sym e) ∙ here)
-
-and_false : (b : Bool) → b && false ≡ false
-and_false true = refl
-and_false false = refl
 
 sum_fits-false : (n m : ℕ) (f : ℕ → Fraction) → m ≤ n → sum_fits m f ≡ false → sum_fits n f ≡ false
 sum_fits-false zero zero f h e = e

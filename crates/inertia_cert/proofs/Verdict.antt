@@ -12,10 +12,7 @@ use Rattle.inertia_cert.specs.declared.certificate.Certificate.{Certificate}
 use Rattle.inertia_cert.specs.SymmetricMatrices.{SquareMatrix, entry}
 use Rattle.inertia_cert.specs.Eliminations.{certificate_size, p_of, q_of, diagonal_of}
 use Rattle.inertia_cert.proofs.GridEntries.{at_kept}
-
-and_false : (b : Bool) → b && false ≡ false
-and_false true = refl
-and_false false = refl
+use Rattle.list_lemmas.proofs.Bools.{and_false}
 
 -- the number of rows is known by three names: the matrix's, P's and the one that was counted with
 module _ (m : SquareMatrix) (c : Certificate) (same : certificate_size c ≡ m.size) (size : ℕ) (counted : size ≡ m.size) where

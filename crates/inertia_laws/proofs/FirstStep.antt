@@ -4,6 +4,7 @@ use Rattle.std.proofs.Common.{◌≡◌, ℕ, zero, suc, pred, ◌≢◌, ℤ, �
 use Rattle.std.proofs.lemmas.Bool.{eqb-true, eqb-false}
 use Rattle.inertia_laws.specs.Elimination.{first_from, start, steps}
 use Rattle.inertia_laws.specs.Range.{every, step_fits, first_leaving}
+use Rattle.list_lemmas.proofs.Bools.{and_false}
 
 pub first_from-some : (count i j : ℕ) (f : ℕ → Bool) → i ≤ j → j < i + count → f j ≡ true → ((a : ℕ) → i ≤ a → a < j → f a ≡ false) → first_from count i f ≡ Some j
 first_from-some zero i j f low high e before = absurd (omega arith)
@@ -53,10 +54,6 @@ module _ (n : ℕ) (l : ℕ → ℕ → ℤ) where
       ] refl
 
 -- ---- tests of all places
-and_false : (b : Bool) → b && false ≡ false
-and_false true = refl
-and_false false = refl
-
 pub every-false : (n c : ℕ) (test : ℕ → Bool) → c < n → test c ≡ false → every n test ≡ false
 every-false zero c test h e = absurd (omega arith)
 every-false (suc n) c test h e =

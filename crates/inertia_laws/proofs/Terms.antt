@@ -1,14 +1,11 @@
 -- A reduced fraction is in lowest terms.
-use Rattle.std.proofs.Common.{◌≡◌, ℕ, zero, suc, ◌*◌, ◌/◌, ◌<◌, ℤ, pos, negsuc, neg_ℤ, true, unsigned_abs, refl, sym, subst, arith}
+use Rattle.std.proofs.Common.{◌≡◌, ℕ, suc, ◌*◌, ◌/◌, ◌<◌, ℤ, pos, negsuc, true, unsigned_abs, refl, sym, subst, arith}
 use Rattle.std.proofs.Math.Nat.{div-mul_cancel, dvd_of_mul-dvd-mul_right, mul-dvd-mul_right, one-dvd}
 use Rattle.std.specs.Int.{IsGcd, ◌∣◌}
 use Rattle.inertia_laws.specs.Matrices.{is_positive}
 use Rattle.inertia_laws.specs.Fractions.{Fraction, AreEqual, gcd, quotient, reduce}
-use Rattle.inertia_laws.proofs.Values.{gcd_is, Means, Means-reduce, equal_by_value}
-
-factor_positive : (q g b : ℕ) → q * g ≡ b → 0 < b → 0 < g
-factor_positive q zero b e h = omega arith
-factor_positive q (suc g) b e h = omega arith
+use Rattle.inertia_laws.proofs.Values.{abs_positive, gcd_is, Means, Means-reduce, equal_by_value}
+use Rattle.list_lemmas.proofs.Integers.{abs_negative, factor_positive}
 
 divided_gcd : (a b : ℕ) → 0 < b → IsGcd (a / gcd a b) (b / gcd a b) 1
 divided_gcd a b h =
@@ -23,18 +20,9 @@ divided_gcd a b h =
           (is_gcd.2 (d * g) (subst (λ t. d * g ∣ t) left (mul-dvd-mul_right d p g)) (subst (λ t. d * g ∣ t) right (mul-dvd-mul_right d q g)))),
     )
 
-abs_negative : (n : ℕ) → unsigned_abs (neg_ℤ (pos n)) ≡ n
-abs_negative zero = refl
-abs_negative (suc n) = refl
-
 quotient_size : (z : ℤ) (g : ℕ) → unsigned_abs (quotient z g) ≡ unsigned_abs z / g
 quotient_size (pos n) g = refl
 quotient_size (negsuc n) g = abs_negative (suc n / g)
-
-abs_positive : (z : ℤ) → is_positive z ≡ true → 0 < unsigned_abs z
-abs_positive (pos zero) e = cc
-abs_positive (pos (suc n)) e = omega arith
-abs_positive (negsuc n) e = cc
 
 pub lowest_terms : (x : Fraction) → is_positive x.den ≡ true → IsGcd (unsigned_abs (reduce x).num) (unsigned_abs (reduce x).den) 1
 unfolding reduce

@@ -1,13 +1,14 @@
 -- Two fractions in lowest terms that have one value are the same: both denominators are the greatest common divisor of one
 -- pair of numbers, the products of each numerator and denominator with the other's denominator.
-use Rattle.std.proofs.Common.{◌≡◌, ℕ, zero, suc, ◌*◌, ◌/◌, ◌<◌, ℤ, pos, negsuc, ◌*ℤ◌, neg_ℤ, true, unsigned_abs, refl, sym, subst, ap, ap₂, ◌∙◌, arith}
+use Rattle.std.proofs.Common.{◌≡◌, ℕ, zero, suc, ◌*◌, ◌/◌, ◌<◌, ℤ, pos, negsuc, ◌*ℤ◌, true, unsigned_abs, refl, sym, subst, ap, ap₂, ◌∙◌, arith}
 use Rattle.std.proofs.Math.Nat.{div-mul_cancel, dvd_of_mul-dvd-mul_right, mul-dvd-mul_right, one-dvd, mul_comm}
 use Rattle.std.proofs.lemmas.Nat.Gcd.{dvd_antisymm}
 use Rattle.std.specs.Int.{IsGcd, ◌∣◌}
 use Rattle.ring_identities.proofs.Integers.{times_comm}
 use Rattle.inertia_laws.specs.Matrices.{is_positive}
 use Rattle.inertia_laws.specs.Fractions.{Fraction, AreEqual, gcd}
-use Rattle.inertia_laws.proofs.Values.{gcd_is, cancel, not_zero}
+use Rattle.inertia_laws.proofs.Values.{gcd_is, cancel, not_zero, abs_positive}
+use Rattle.list_lemmas.proofs.Integers.{abs_negative}
 
 divides_multiple : (k a : ℕ) → k ∣ a * k
 divides_multiple k a = subst (λ t. t ∣ a * k) (let e : 1 * k ≡ k = omega arith in e) (mul-dvd-mul_right 1 (one-dvd a) k)
@@ -24,21 +25,12 @@ scaled_gcd k a b h e =
     let is_one : g / k ≡ 1 = dvd_antisymm one (one-dvd (g / k)) in
     sym quotient_is ∙ ap (λ t. t * k) is_one ∙ (let same : 1 * k ≡ k = omega arith in same)
 
-abs_negative : (n : ℕ) → unsigned_abs (neg_ℤ (pos n)) ≡ n
-abs_negative zero = refl
-abs_negative (suc n) = refl
-
 -- the size of a product with a number above 0
 abs_times : (a d : ℤ) → is_positive d ≡ true → unsigned_abs (a *ℤ d) ≡ unsigned_abs a * unsigned_abs d
 abs_times a (pos zero) e = cc
 abs_times (pos n) (pos (suc d)) e = refl
 abs_times (negsuc n) (pos (suc d)) e = abs_negative (suc n * suc d)
 abs_times a (negsuc d) e = cc
-
-abs_positive : (z : ℤ) → is_positive z ≡ true → 0 < unsigned_abs z
-abs_positive (pos zero) e = cc
-abs_positive (pos (suc n)) e = omega arith
-abs_positive (negsuc n) e = cc
 
 abs_is : (z : ℤ) → is_positive z ≡ true → pos (unsigned_abs z) ≡ z
 abs_is (pos n) e = refl

@@ -65,6 +65,11 @@ not_zero (pos zero) e = cc
 not_zero (pos (suc n)) e = refl
 not_zero (negsuc n) e = cc
 
+pub abs_positive : (z : ℤ) → is_positive z ≡ true → 0 < unsigned_abs z
+abs_positive (pos zero) e = cc
+abs_positive (pos (suc n)) e = omega arith
+abs_positive (negsuc n) e = cc
+
 pub cancel : (c x y : ℤ) → is_zero c ≡ false → c *ℤ x ≡ c *ℤ y → x ≡ y
 cancel c x y h e =
     let difference : c *ℤ (x +ℤ neg_ℤ y) ≡ pos 0 =

@@ -1,7 +1,7 @@
 use Rattle.std.proofs.Common.{◌&&◌, pred, ap, ◌∙◌, arith, add-one, ap₂}
 use Rattle.inertia_laws.specs.Checking.{sum_fits}
 use Rattle.inertia_laws.proofs.FirstStep.{every-false}
-use Rattle.inertia_laws.proofs.CheckedFits.{and_left, and_right}
+use Rattle.list_lemmas.proofs.Bools.{and_first, and_second}
 use Rattle.inertia_cert.specs.Values.{value}
 use Rattle.inertia_cert.proofs.SumSteps.{sum_more, fits_more, sum_refused}
 use Rattle.inertia_cert.proofs.sums.summed.Goals as goal
@@ -22,6 +22,6 @@ loop-place-preserved g c =
     rw add-one
     (record {
       sum = made.1 ∙ sum_more c.loop-place.place (g.T.Terms.gives c.args.terms.now) (value c.loop-place.sum) (omega arith) c.loop-place.invariant.sum;
-      fit = ap₂ (λ u v. u && v) c.loop-place.invariant.fit (and_left _ _ made.0);
-      sums_fit = fits_more c.loop-place.place (g.T.Terms.gives c.args.terms.now) (value c.loop-place.sum) (omega arith) c.loop-place.invariant.sum c.loop-place.invariant.sums_fit (and_right _ _ made.0);
+      fit = ap₂ (λ u v. u && v) c.loop-place.invariant.fit (and_first _ _ made.0);
+      sums_fit = fits_more c.loop-place.place (g.T.Terms.gives c.args.terms.now) (value c.loop-place.sum) (omega arith) c.loop-place.invariant.sum c.loop-place.invariant.sums_fit (and_second _ _ made.0);
     })
