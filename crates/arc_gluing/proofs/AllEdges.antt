@@ -1,38 +1,16 @@
 -- All edges, one by one: the mates know the ends of all paths, and the loops that closed are the labels that were lost.
---
--- Others cite: times_of_member, member_of_times, times_in-pair, IsMated-after, loops_after-count.
-use Rattle.std.proofs.Common.{◌≡◌, ◌≢◌, ℕ, ◌+◌, ◌≤◌, Bool, true, false, cond, ◌==◌, List, [], ◌∷◌, ◌++◌, map, refl, sym, ap, ◌∙◌, arith}
+use Rattle.std.proofs.Common.{◌≡◌, ◌≢◌, ℕ, ◌+◌, Bool, true, cond, ◌==◌, List, [], ◌∷◌, ◌++◌, map, refl, sym, ap, ◌∙◌, arith}
 use Rattle.std.specs.Set.{is_member}
 use Rattle.std.proofs.lemmas.Bool.{eq-eqb, or_left, or_right}
 use Rattle.std.proofs.lemmas.Bool.Decides.{nat_tests}
-use Rattle.std.proofs.lemmas.List.Sums.{sum_by-cons}
 use Rattle.arc_gluing.proofs.OneEdge as step
 use Rattle.graph_parts.proofs.Counting.{label_count-relabel, label_count-joined, distinct_count-cons, is_member-map}
 use Rattle.graph_parts.specs.Ends.{EndsAre}
 use Rattle.graph_parts.specs.Labels.{relabel, label_after, label_count}
-use Rattle.state_sums.specs.Networks.{times_in}
+use Rattle.list_lemmas.specs.Times.{times_in}
 use Rattle.arc_gluing.specs.Mates.{joined_mates, closes, mates_after, loops_after, ends_of, IsMated}
-
-pub times_of_member : (x : ℕ) (xs : List ℕ) → is_member ◌==◌ xs x ≡ true → 1 ≤ times_in xs x
-times_of_member x [] m = absurd (grind (arith, m))
-times_of_member x (y ∷ xs) m =
-    let ih = times_of_member x xs in let e = sum_by-cons (λ z. cond (x == z) 1 0) y xs in grind (arith, nat_tests, ih, e, m)
-
-pub member_of_times : (x : ℕ) (xs : List ℕ) → 1 ≤ times_in xs x → is_member ◌==◌ xs x ≡ true
-member_of_times x [] m = absurd (omega arith)
-member_of_times x (y ∷ xs) m =
-    let ih = member_of_times x xs in let e = sum_by-cons (λ z. cond (x == z) 1 0) y xs in grind (arith, nat_tests, ih, e, m)
-
-pub times_in-pair : (a b : ℕ) (xs : List ℕ) (x : ℕ) → times_in (a ∷ b ∷ xs) x ≡ cond (x == a) 1 0 + cond (x == b) 1 0 + times_in xs x
-times_in-pair a b xs x =
-    let e = sum_by-cons (λ z. cond (x == z) 1 0) a (b ∷ xs) in let f = sum_by-cons (λ z. cond (x == z) 1 0) b xs in omega (arith, e, f)
-
-label_missing : (l : ℕ → ℕ) (y : ℕ) (zs : List ℕ) → ((z : ℕ) → is_member ◌==◌ zs z ≡ true → l y ≡ l z → ⊥) → is_member ◌==◌ (map l zs) (l y) ≡ false
-label_missing l y [] h = refl
-label_missing l y (z ∷ zs) h =
-    let ih = label_missing l y zs (λ w m. h w (or_right (w == z) (is_member ◌==◌ zs w) m)) in
-    let here = h z (or_left (z == z) (is_member ◌==◌ zs z) (eq-eqb z z refl)) in
-    grind (arith, nat_tests, ih, here)
+use Rattle.graph_parts.proofs.Through.{member_label}
+use Rattle.list_lemmas.proofs.Times.{times_of_member, member_of_times, times_in-pair}
 
 module _ (a b : ℕ) (rest : List ℕ) (mate label : ℕ → ℕ) (h : IsMated (times_in (a ∷ b ∷ rest)) mate label) (names : List ℕ) (p : is_member ◌==◌ names a ≡ true) (q : is_member ◌==◌ names b ≡ true) where
   count_closed : mate a ≡ b → 1 + label_count (relabel label (a, b)) rest + label_count label names ≡ label_count (relabel label (a, b)) names + label_count label (a ∷ b ∷ rest)
@@ -43,7 +21,7 @@ module _ (a b : ℕ) (rest : List ℕ) (mate label : ℕ → ℕ) (h : IsMated (
       let f = label_count-joined label a b rest same in
       let c = distinct_count-cons (label a) (map label (b ∷ rest)) in
       let d = distinct_count-cons (label b) (map label rest) in
-      let m = label_missing label b rest (λ z mz k.
+      let m = member_label label b rest (λ z mz k.
       let tz = times_of_member z rest mz in
       let na : z ≢ a = step.not_a a b times left mate label split h loop z tz in
       let nb : z ≢ b = step.not_b a b times left mate label split h loop z tz in

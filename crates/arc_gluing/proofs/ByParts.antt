@@ -1,7 +1,5 @@
 -- Pairings by labels are pairings by walks and by parts.
---
--- Others cite: IsPairedBy-from_labels, IsPairedLabels-from_walks, partners_of-labels.
-use Rattle.std.proofs.Common.{◌≡◌, ℕ, Bool, true, not, ◌&&◌, ◌==◌, List, sym, ap, arith}
+use Rattle.std.proofs.Common.{◌≡◌, ℕ, Bool, true, not, ◌&&◌, ◌==◌, List, sym, ap}
 use Rattle.std.specs.List.{AllPass, position_or_len}
 use Rattle.std.specs.Set.{is_member}
 use Rattle.std.proofs.lemmas.Bool.{eq-eqb, eqb-true}
@@ -13,6 +11,7 @@ use Rattle.graph_parts.proofs.Rounds.{part-Joined}
 use Rattle.graph_parts.proofs.Walks.{Joined-from_labels, labels-from_Joined}
 use Rattle.arc_gluing.specs.Mates.{IsPairedLabels, label_partners}
 use Rattle.arc_gluing.specs.Pairings.{IsPairedBy, partners_of}
+use Rattle.list_lemmas.proofs.Bools.{same_bool}
 
 pub IsPairedBy-from_labels : (edges : List (ℕ × ℕ)) (names partner : List ℕ) → IsPairedLabels edges names partner → IsPairedBy edges names partner
 IsPairedBy-from_labels edges names partner h = record {
@@ -29,9 +28,6 @@ IsPairedLabels-from_walks edges names partner h = record {
   joined = λ i l. sym (labels-from_Joined edges (h.joined i l));
   only = λ i j p q e d. h.only i j p q (Joined-from_labels edges _ _ e) d;
 }
-
-same_bool : (b c : Bool) → (b ≡ true → c ≡ true) → (c ≡ true → b ≡ true) → b ≡ c
-same_bool b c h k = grind (arith, h, k)
 
 module _ (names : List ℕ) (edges : List (ℕ × ℕ)) (among : AreAmong names edges) where
   in_part : (x y : ℕ) → is_member ◌==◌ names x ≡ true → is_member ◌==◌ (part names edges x) y ≡ (label_of edges y == label_of edges x)

@@ -1,6 +1,4 @@
 -- What holds of the edges of each choice of one term in each node.
---
--- Others cite: AllChoices, AllChoices-weaker, AllChoices-append, total_choices.
 use Rattle.std.proofs.Common.{◌≡◌, ℕ, ◌*◌, List, [], ◌∷◌, ◌++◌, ap, subst, append_assoc}
 use Rattle.std.specs.List.{All}
 use Rattle.std.proofs.lemmas.List.Elements.{All-weaker}

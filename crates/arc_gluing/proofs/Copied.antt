@@ -1,19 +1,19 @@
 -- The old pairing taken as the first mates, without a step for each of its pairs: its partners are what the steps would give.
---
--- Others cite: stepped, copied, copied-count.
 use Rattle.std.proofs.Common.{◌≡◌, ℕ, ◌+◌, ◌≤◌, ◌<◌, false, ◌==◌, ⊎_elim, List, ◌++◌, length, slice_index, refl, sym, ap, ◌∙◌, arith}
 use Rattle.std.specs.Set.{is_member}
 use Rattle.std.proofs.lemmas.Bool.{cases_Bool}
 use Rattle.std.proofs.lemmas.Bool.Decides.{nat_tests}
-use Rattle.arc_gluing.proofs.AllEdges.{times_of_member, member_of_times, IsMated-after}
+use Rattle.arc_gluing.proofs.AllEdges.{IsMated-after}
 use Rattle.arc_gluing.proofs.Kept.{Keeps-own, Keeps-both, zip-Keeps, label_count-within}
-use Rattle.arc_gluing.proofs.PointPairs.{times_in-append, times_in-pairs}
-use Rattle.arc_gluing.proofs.Items.{member_at}
+use Rattle.arc_gluing.proofs.PointPairs.{times_in-pairs}
+use Rattle.list_lemmas.proofs.Times.{times_of_member, member_of_times, times_in-append}
 use Rattle.graph_parts.proofs.Ends.{is_member-get_or}
 use Rattle.graph_parts.specs.Labels.{label_of, label_count}
-use Rattle.state_sums.specs.Networks.{times_in, IsPairing}
+use Rattle.state_sums.specs.Networks.{IsPairing}
 use Rattle.arc_gluing.specs.Mates.{mates_after, ends_of, pairs_below, IsMated}
 use Rattle.arc_gluing.specs.Seams.{IsLeft}
+use Rattle.list_lemmas.proofs.Items.{member_at}
+use Rattle.list_lemmas.specs.Times.{times_in}
 
 -- mates that are equal where it counts serve as well
 pub IsMated-same : (times mate other label : ℕ → ℕ) → IsMated times mate label → ((x : ℕ) → 1 ≤ times x → other x ≡ mate x) → IsMated times other label

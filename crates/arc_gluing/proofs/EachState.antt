@@ -1,21 +1,20 @@
 -- Each state of some nodes pairs their open names: node by node, since a node keeps it.
---
--- Others cite: names_of-more, AreFew-front, AreOpen-singles, few_between, left_between, each_choice.
-use Rattle.std.proofs.Common.{◌≡◌, ℕ, ◌+◌, ◌≤◌, Bool, true, false, cond, ◌==◌, ⊎_elim, List, [], ◌∷◌, ◌++◌, length, refl, sym, ap, subst, ◌∙◌, arith, append-nil, append_assoc}
-use Rattle.std.specs.List.{All, filter}
+use Rattle.std.proofs.Common.{◌≡◌, ℕ, ◌+◌, ◌≤◌, cond, ◌==◌, List, [], ◌∷◌, ◌++◌, length, refl, sym, ap, subst, ◌∙◌, arith, append-nil, append_assoc}
+use Rattle.std.specs.List.{All}
 use Rattle.std.proofs.lemmas.Bool.Decides.{nat_tests}
-use Rattle.std.proofs.lemmas.Bool.{cases_Bool}
 use Rattle.std.proofs.lemmas.List.Concat.{flat_map-append}
 use Rattle.std.proofs.lemmas.List.Elements.{All-head, All-tail, All-weaker}
 use Rattle.std.proofs.lemmas.List.Sums.{sum_by-cons}
-use Rattle.state_sums.specs.Networks.{Node, IsNode, IsPairing, names_of, times_in}
+use Rattle.state_sums.specs.LocalSums.{open_names_in}
+use Rattle.state_sums.specs.Networks.{Node, IsNode, IsPairing, names_of}
 use Rattle.state_sums.specs.StateSums.{term_edges}
 use Rattle.arc_gluing.specs.Laws.{AreFew}
 use Rattle.arc_gluing.specs.Pairings.{AreOpen}
 use Rattle.arc_gluing.specs.Seams.{IsLeft}
 use Rattle.arc_gluing.proofs.Choices.{AllChoices, AllChoices-weaker, AllChoices-append}
 use Rattle.arc_gluing.proofs.OneNode.{IsChoice, next_choice}
-use Rattle.arc_gluing.proofs.PointPairs.{times_in-append}
+use Rattle.list_lemmas.specs.Times.{times_in}
+use Rattle.list_lemmas.proofs.Times.{times_in-append, times_in-filter}
 
 pub names_of-append : (nodes others : List Node) → names_of (nodes ++ others) ≡ names_of nodes ++ names_of others
 names_of-append nodes others = flat_map-append (λ n. n.ends) nodes others
@@ -30,23 +29,8 @@ pub AreFew-front : (nodes others : List Node) → AreFew (nodes ++ others) → A
 AreFew-front nodes others few x =
     let a = few x in let b = ap (λ xs. times_in xs x) (names_of-append nodes others) in let c = times_in-append (names_of nodes) (names_of others) x in omega (arith, a, b, c)
 
--- ---- the names that stand once, as a list
-times_in-filter : (test : ℕ → Bool) (xs : List ℕ) (x : ℕ) → times_in (filter test xs) x ≡ cond (test x) (times_in xs x) 0
-times_in-filter test [] x = grind arith
-times_in-filter test (y ∷ xs) x =
-    let ih = times_in-filter test xs x in
-    let a = sum_by-cons (λ z. cond (x == z) 1 0) y xs in
-    let b = sum_by-cons (λ z. cond (x == z) 1 0) y (filter test xs) in
-    ⊎_elim
-    (λ t. ap {B = ℕ} (λ c. times_in (cond c (y ∷ filter test xs) (filter test xs)) x) t ∙ (let f : x ≡ y → test x ≡ true = λ e. ap test e ∙ t in grind (arith, nat_tests, ih, a, b, f)))
-    (λ t. ap {B = ℕ} (λ c. times_in (cond c (y ∷ filter test xs) (filter test xs)) x) t ∙ (let f : x ≡ y → test x ≡ false = λ e. ap test e ∙ t in grind (arith, nat_tests, ih, a, b, f)))
-    (cases_Bool (test y))
-
-abbrev pub singles : List ℕ → List ℕ
-singles names = filter (λ x. times_in names x == 1) names
-
-pub AreOpen-singles : (names : List ℕ) → AreOpen names (singles names)
-AreOpen-singles names = record { once = λ x. let f = times_in-filter (λ y. times_in names y == 1) names x in grind (arith, nat_tests, f) }
+pub AreOpen-open_names_in : (names : List ℕ) → AreOpen names (open_names_in names)
+AreOpen-open_names_in names = record { once = λ x. let f = times_in-filter (λ y. times_in names y == 1) names x in grind (arith, nat_tests, f) }
 
 -- ---- from the names that are open before a node to those that are open after it
 pub left_between : (nodes : List Node) (node : Node) (inner outer : List ℕ) → AreFew (nodes ++ node ∷ []) → AreOpen (names_of nodes) inner → AreOpen (names_of (nodes ++ node ∷ [])) outer →
@@ -99,10 +83,10 @@ choices_on (next ∷ back) front node inner outer ok few open_in open_out choice
     let Q : List Node → Type 0 = λ ns. AllChoices ns (IsChoice (names_of ns) outer) in
     let few2 : AreFew ((front ++ node ∷ []) ++ next ∷ back) = subst AreFew step few in
     let R : List Node → Type 0 = λ ns. AreOpen (names_of ns) outer in
-    let middle = AreOpen-singles (names_of (front ++ node ∷ [])) in
+    let middle = AreOpen-open_names_in (names_of (front ++ node ∷ [])) in
     subst Q (sym step)
-    (choices_on back (front ++ node ∷ []) next (singles (names_of (front ++ node ∷ []))) outer (All-tail IsNode node (next ∷ back) ok) few2 middle (subst R step open_out)
-    (choices_more front node inner (singles (names_of (front ++ node ∷ []))) (All-head IsNode node (next ∷ back) ok) (AreFew-front (front ++ node ∷ []) (next ∷ back) few2) open_in middle choices))
+    (choices_on back (front ++ node ∷ []) next (open_names_in (names_of (front ++ node ∷ []))) outer (All-tail IsNode node (next ∷ back) ok) few2 middle (subst R step open_out)
+    (choices_more front node inner (open_names_in (names_of (front ++ node ∷ []))) (All-head IsNode node (next ∷ back) ok) (AreFew-front (front ++ node ∷ []) (next ∷ back) few2) open_in middle choices))
 
 -- EACH CHOICE PAIRS THE OPEN NAMES
 pub each_choice : (nodes : List Node) (open_names : List ℕ) → All IsNode nodes → AreFew nodes → AreOpen (names_of nodes) open_names → AllChoices nodes (IsChoice (names_of nodes) open_names)

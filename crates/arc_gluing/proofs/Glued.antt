@@ -1,7 +1,5 @@
 -- The pairs of an old pairing and of a term, joined by mates: each name that is left has the other one with its label as its
 -- mate, and the loops are the labels that no such name has.
---
--- Others cite: EndsAre-pair_edges, EndsAre-both, glued, loops-closed.
 use Rattle.std.proofs.Common.{◌≡◌, ℕ, zero, suc, ◌≤◌, ◌<◌, nat_lt, Bool, true, false, cond, ◌==◌, List, [], ◌∷◌, ◌++◌, map, length, slice_index, refl, sym, ap, subst, ◌∙◌, arith}
 use Rattle.std.specs.Set.{is_member}
 use Rattle.std.specs.List.{AllPass}
@@ -10,10 +8,10 @@ use Rattle.std.proofs.lemmas.Bool.Decides.{nat_tests}
 use Rattle.std.proofs.lemmas.List.{get_or-map, length-map}
 use Rattle.std.proofs.lemmas.List.Elements.{All-cons, All-nil}
 use Rattle.state_sums.proofs.StateEdges.{EndsAre-term}
-use Rattle.arc_gluing.proofs.Items.{all_below}
+use Rattle.list_lemmas.proofs.Items.{all_below}
 use Rattle.arc_gluing.proofs.Copied.{copied-count}
 use Rattle.graph_parts.proofs.Counting.{label_after-append}
-use Rattle.arc_gluing.proofs.AllEdges.{times_of_member, IsMated-after, loops_after-count}
+use Rattle.arc_gluing.proofs.AllEdges.{IsMated-after, loops_after-count}
 use Rattle.arc_gluing.proofs.Kept.{Keeps, Keeps-append, Keeps-front, Keeps-rest, Keeps-own, kept, Keeps-both, Keeps-once}
 use Rattle.arc_gluing.proofs.PointPairs.{times_in-pairs}
 use Rattle.graph_parts.proofs.Agreement.{label_count-agree, eqb_from_iff}
@@ -22,10 +20,12 @@ use Rattle.graph_parts.proofs.Ends.{EndsAre-append, EndsAre-weaker, is_member-ge
 use Rattle.graph_parts.specs.Ends.{EndsAre}
 use Rattle.graph_parts.specs.Labels.{label_of, label_after, label_count, Agree}
 use Rattle.graph_parts.specs.Patterns.{label_closed}
-use Rattle.state_sums.specs.Networks.{times_in, IsPairing}
+use Rattle.state_sums.specs.Networks.{IsPairing}
 use Rattle.arc_gluing.specs.Mates.{mates_after, loops_after, ends_of, pairs_below, IsMated, IsPairedLabels}
 use Rattle.arc_gluing.specs.Pairings.{pair_edges}
 use Rattle.arc_gluing.specs.Seams.{IsLeft}
+use Rattle.list_lemmas.proofs.Times.{times_of_member}
+use Rattle.list_lemmas.specs.Times.{times_in}
 
 EndsAre-pairs : (names partner : List ℕ) → IsPairing partner → length partner ≡ length names → (n : ℕ) → n ≤ length partner → EndsAre (is_member ◌==◌ names) (pairs_below names partner n)
 EndsAre-pairs names partner h e zero l = tt

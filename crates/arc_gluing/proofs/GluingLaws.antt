@@ -1,6 +1,4 @@
 -- The laws of gluing, from the same facts by labels: of each state, of one more term, and of the sums over all states.
---
--- Others cite: open_among, one_pairing_by_parts, paired_states, glued_pairing, glued_closed, gluing, one_more_node, whole_network.
 use Rattle.std.proofs.Common.{◌≡◌, ℕ, suc, ◌+◌, ◌*◌, ◌^◌, ◌≤◌, ◌==◌, List, [], ◌∷◌, ◌++◌, map, length, slice_index, refl, sym, ap, subst, ◌∙◌, arith, append-nil, append_assoc, mul_assoc, mul_left_comm, All}
 use Rattle.std.specs.List.{AllPass, flat_map}
 use Rattle.std.specs.Set.{is_member}
@@ -14,24 +12,25 @@ use Rattle.graph_parts.specs.Patterns.{closed_parts, label_closed}
 use Rattle.graph_parts.proofs.Ends.{is_member-get_or, EndsAre-append, EndsAre-weaker}
 use Rattle.graph_parts.proofs.Distinct.{is_member-append}
 use Rattle.graph_parts.proofs.PatternLabels.{closed_parts-labels}
-use Rattle.state_sums.specs.Networks.{Node, Term, IsPairing, names_of, times_in}
+use Rattle.state_sums.specs.Networks.{Node, Term, IsPairing, names_of}
 use Rattle.state_sums.specs.StateSums.{states, state_edges, state_weight, term_edges}
 use Rattle.state_sums.proofs.StateEdges.{sum_by_all}
-use Rattle.state_sums.proofs.Sums.{total, total_is, total-append, sum_by_same, sum_by-times}
-use Rattle.arc_gluing.specs.Laws.{AreFew, PairedStatesLaw, OnePairingLaw, IsGluedTo, GluingLaw, OneMoreNodeLaw, WholeNetworkLaw}
+use Rattle.state_sums.proofs.Sums.{total, total_is, total-append}
+use Rattle.arc_gluing.specs.Laws.{AreFew, PairedStatesLaw, OnePairingLaw, IsGluedTo, GluedNodeLaw, OneMoreNodeLaw, WholeNetworkLaw}
 use Rattle.arc_gluing.specs.Mates.{label_partners}
 use Rattle.arc_gluing.specs.Pairings.{pair_edges, IsPairedBy, partners_of, AreOpen}
 use Rattle.arc_gluing.specs.Seams.{IsLeft}
 use Rattle.arc_gluing.specs.Sums.{pairing_sum, worth_before}
-use Rattle.arc_gluing.proofs.AllEdges.{times_of_member, member_of_times}
+use Rattle.list_lemmas.specs.Times.{times_in}
 use Rattle.arc_gluing.proofs.ByParts.{IsPairedBy-from_labels, IsPairedLabels-from_walks, partners_of-labels}
 use Rattle.arc_gluing.proofs.Choices.{AllChoices, total_choices}
 use Rattle.arc_gluing.proofs.EachState.{names_of-more, AreFew-front, few_between, left_between, each_choice}
 use Rattle.arc_gluing.proofs.Glued.{EndsAre-pair_edges}
-use Rattle.arc_gluing.proofs.Items.{all_pass_at}
+use Rattle.list_lemmas.proofs.Sums.{sum_by_same, sum_by-times}
 use Rattle.arc_gluing.proofs.OneNode.{IsChoice, AreOnce-open, label_partners-glue, label_closed-more}
 use Rattle.arc_gluing.proofs.Places.{label_partners-is}
-use Rattle.arc_gluing.proofs.PointPairs.{times_in-append}
+use Rattle.list_lemmas.proofs.Times.{times_of_member, member_of_times, times_in-append}
+use Rattle.list_lemmas.proofs.Items.{all_pass_at}
 
 -- ---- what holds of every choice holds of every state
 All-flat_map : {X Y : Type 0} (P : Y → Type 0) (f : X → List Y) (xs : List X) → All (λ x. All P (f x)) xs → All P (flat_map f xs)
@@ -152,8 +151,8 @@ module _ (nodes : List Node) (node : Node) (inner outer : List ℕ) (few : AreFe
       omega (arith, a, b, c, d, e)
 
 -- GLUING
-pub gluing : GluingLaw
-gluing nodes node inner outer ok node_ok few open_in open_out =
+pub glued_node : GluedNodeLaw
+glued_node nodes node inner outer ok node_ok few open_in open_out =
     All-weaker (IsState nodes (IsChoice (names_of nodes) inner)) (λ state. All (λ term. IsGluedTo nodes node inner outer state term) node.terms)
     (λ state s.
     All-weaker (λ term. IsPairing term.partner × (length term.partner ≡ length node.ends)) (λ term. IsGluedTo nodes node inner outer state term)

@@ -1,15 +1,9 @@
 -- Labels that edges keep: names that edges join have one label, in every labelling that is equal at the ends of each edge.
 -- So two lists of edges that keep each other's labels tell the same names apart: the pairs of a pairing, each once or twice.
---
--- Others cite: Keeps, Keeps-append, Keeps-front, Keeps-rest, Keeps-own, kept, Keeps-zip, zip-Keeps, Keeps-both, Keeps-once,
--- label_count-within.
-use Rattle.std.proofs.Common.{◌≡◌, ◌≢◌, ℕ, zero, suc, ◌≤◌, ◌<◌, nat_lt, Bool, true, false, cond, ◌==◌, ⊎_elim, List, [], ◌∷◌, ◌++◌, map, length, slice_index, zip, Contains, refl, sym, ap, subst, ◌∙◌, arith}
+use Rattle.std.proofs.Common.{◌≡◌, ◌≢◌, ℕ, zero, suc, ◌≤◌, ◌<◌, nat_lt, Bool, true, false, cond, ◌==◌, ⊎_elim, List, [], ◌∷◌, ◌++◌, map, length, slice_index, zip, Contains, sym, ap, subst, ◌∙◌, arith}
 use Rattle.std.specs.Set.{is_member}
-use Rattle.std.specs.List.{AllPass}
-use Rattle.std.proofs.lemmas.Bool.{eq-eqb, eqb-true, cases_Bool, or_left, or_right}
+use Rattle.std.proofs.lemmas.Bool.{eq-eqb, eqb-true, cases_Bool}
 use Rattle.std.proofs.lemmas.Bool.Decides.{nat_tests}
-use Rattle.std.proofs.lemmas.List.Elements.{All-cons, All-nil}
-use Rattle.graph_parts.proofs.Counting.{is_member-map}
 use Rattle.graph_parts.proofs.Distinct.{distinct_count-le_from_within}
 use Rattle.graph_parts.proofs.Walks.{labels-from_Joined, Contains-head, Contains-later}
 use Rattle.graph_parts.specs.Labels.{relabel, label_after, label_of, label_count}
@@ -17,6 +11,7 @@ use Rattle.graph_parts.specs.Walks.{along}
 use Rattle.state_sums.specs.Networks.{IsPairing}
 use Rattle.arc_gluing.specs.Mates.{pairs_below}
 use Rattle.arc_gluing.specs.Pairings.{pair_edges}
+use Rattle.graph_parts.proofs.PartLaws.{within_labels}
 
 abbrev pub Keeps : (ℕ → ℕ) → List (ℕ × ℕ) → Type 0
 Keeps l [] = Unit {0}
@@ -105,13 +100,5 @@ module _ (l : ℕ → ℕ) (names partner : List ℕ) where
     pub Keeps-once : Keeps l (pair_edges names partner) → Keeps l (pairs_below names partner (length partner))
     Keeps-once k = Keeps-below (length partner) (λ i p. zip-Keeps l (slice_index names) names partner k i (omega arith) p)
 
--- ---- counts see members alone
-members_within : (l : ℕ → ℕ) (xs ys : List ℕ) → ((x : ℕ) → is_member ◌==◌ xs x ≡ true → is_member ◌==◌ ys x ≡ true) → AllPass (is_member ◌==◌ (map l ys)) (map l xs)
-members_within l [] ys h = All-nil (λ z. is_member ◌==◌ (map l ys) z ≡ true)
-members_within l (x ∷ xs) ys h =
-    All-cons (λ z. is_member ◌==◌ (map l ys) z ≡ true) (l x) (map l xs)
-    (is_member-map l ys x (h x (or_left (x == x) _ (eq-eqb x x refl))))
-    (members_within l xs ys (λ z m. h z (or_right (z == x) _ m)))
-
 pub label_count-within : (l : ℕ → ℕ) (xs ys : List ℕ) → ((x : ℕ) → is_member ◌==◌ xs x ≡ true → is_member ◌==◌ ys x ≡ true) → label_count l xs ≤ label_count l ys
-label_count-within l xs ys h = distinct_count-le_from_within (map l xs) (map l ys) (members_within l xs ys h)
+label_count-within l xs ys h = distinct_count-le_from_within (map l xs) (map l ys) (within_labels l xs ys h)

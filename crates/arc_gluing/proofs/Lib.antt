@@ -1,4 +1,3 @@
-pub mod Items
 pub mod OneEdge
 pub mod AllEdges
 pub mod PointPairs

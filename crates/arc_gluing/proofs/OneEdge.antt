@@ -1,7 +1,5 @@
 -- One edge more: where the mates know the ends of all paths, they do so after an edge between a and b. Either the mate of a
 -- is b, a loop closes and both are gone; or the paths of a and b become one, whose ends are the mates of a and b.
---
--- Others cite: same_or_not, IsMated-joined, and of the two cases has_a, not_a, not_b, label_same, left_u, lab_u, lab_apart.
 use Rattle.std.proofs.Common.{◌≡◌, ◌≢◌, ℕ, ◌+◌, ◌≤◌, cond, ◌==◌, ⊎_elim, sym, ap, subst, ◌∙◌, arith}
 use Rattle.std.proofs.lemmas.Bool.{eq-eqb, eqb-true, cases_Bool}
 use Rattle.std.proofs.lemmas.Bool.Decides.{nat_tests}

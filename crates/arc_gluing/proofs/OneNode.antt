@@ -1,27 +1,26 @@
 -- One node more behind a choice of terms: the pairing and the closed parts after it, by labels.
---
--- Others cite: IsChoice, AreOnce-open, short_paired, label_partners-glue, label_closed-more, next_choice.
 use Rattle.std.proofs.Common.{◌≡◌, ℕ, ◌+◌, ◌≤◌, true, ◌==◌, List, ◌++◌, map, length, slice_index, sym, subst, arith}
 use Rattle.std.specs.Set.{is_member}
 use Rattle.std.specs.List.{AllPass}
 use Rattle.std.proofs.lemmas.Bool.Decides.{nat_tests}
-use Rattle.arc_gluing.proofs.AllEdges.{times_of_member, member_of_times}
+use Rattle.list_lemmas.proofs.Times.{times_of_member, member_of_times, times_in-append}
 use Rattle.arc_gluing.proofs.Glued.{glued}
 use Rattle.arc_gluing.proofs.Places.{AreOnce, AreOnce-from_times, place_in-at, place_in-found, label_partners-is}
-use Rattle.arc_gluing.proofs.PointPairs.{times_in-append, times_in-pairs}
-use Rattle.arc_gluing.proofs.Items.{all_pass_at}
+use Rattle.arc_gluing.proofs.PointPairs.{times_in-pairs}
+use Rattle.list_lemmas.proofs.Items.{all_pass_at}
 use Rattle.arc_gluing.proofs.Glued.{EndsAre-pair_edges}
 use Rattle.arc_gluing.proofs.Through.{label_closed-pairing, IsPairedLabels-through}
 use Rattle.graph_parts.proofs.Distinct.{is_member-append}
 use Rattle.graph_parts.proofs.Ends.{EndsAre-append, EndsAre-weaker, is_member-get_or}
 use Rattle.graph_parts.specs.Ends.{EndsAre}
 use Rattle.graph_parts.specs.Patterns.{label_closed}
-use Rattle.state_sums.specs.Networks.{times_in, IsPairing}
+use Rattle.state_sums.specs.Networks.{IsPairing}
 use Rattle.graph_parts.specs.Labels.{label_of}
 use Rattle.arc_gluing.proofs.Copied.{stepped}
 use Rattle.arc_gluing.specs.Mates.{mates_after, pairs_below, ends_of, IsMated, IsPairedLabels, label_partners}
 use Rattle.arc_gluing.specs.Pairings.{pair_edges, AreOpen}
 use Rattle.arc_gluing.specs.Seams.{IsLeft, place_in}
+use Rattle.list_lemmas.specs.Times.{times_in}
 
 -- a choice pairs the open names
 pub record IsChoice (names open_names : List ℕ) (es : List (ℕ × ℕ)) : Type 0 where

@@ -1,6 +1,4 @@
 -- The partners by labels as a function: each name's partner is the place of the first other name with its label.
---
--- Others cite: first_place, AreOnce, AreOnce-from_times, place_in-at, place_in-found, label_partners-is.
 use Rattle.std.proofs.Common.{◌≡◌, ◌≢◌, ℕ, zero, suc, ◌+◌, ◌≤◌, ◌<◌, Bool, true, false, cond, not, ◌&&◌, ◌==◌, List, [], ◌∷◌, length, slice_index, refl, sym, ap, ◌∙◌, arith}
 use Rattle.std.specs.List.{position_or_len}
 use Rattle.std.specs.Set.{is_member}
@@ -8,12 +6,12 @@ use Rattle.std.proofs.lemmas.Bool.{eq-eqb}
 use Rattle.std.proofs.lemmas.Bool.Decides.{nat_tests}
 use Rattle.std.proofs.lemmas.List.{get_or-map, length-map}
 use Rattle.std.proofs.lemmas.List.Sums.{sum_by-cons}
-use Rattle.arc_gluing.proofs.AllEdges.{times_of_member, member_of_times}
+use Rattle.list_lemmas.proofs.Times.{times_of_member, member_of_times}
 use Rattle.arc_gluing.proofs.OneEdge.{same_or_not}
-use Rattle.arc_gluing.proofs.Items.{same_items, member_at}
+use Rattle.list_lemmas.proofs.Items.{same_items, member_at}
 use Rattle.graph_parts.proofs.Ends.{is_member-get_or}
 use Rattle.graph_parts.specs.Labels.{label_of}
-use Rattle.state_sums.specs.Networks.{times_in}
+use Rattle.list_lemmas.specs.Times.{times_in}
 use Rattle.arc_gluing.specs.Seams.{place_in}
 use Rattle.arc_gluing.specs.Mates.{IsPairedLabels, label_partners}
 

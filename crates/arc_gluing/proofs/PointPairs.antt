@@ -1,13 +1,13 @@
 -- The pairs of a pairing have each of its points once: the points whose pair begins at i or later become fewer by the two of
 -- the pair that begins at i.
---
--- Others cite: times_in-append, ends_of-append, times_in-pairs.
 use Rattle.std.proofs.Common.{◌≡◌, ◌≢◌, ℕ, zero, suc, ◌+◌, ◌≤◌, ◌<◌, nat_lt, Bool, true, false, cond, not, ◌&&◌, ◌==◌, ⊎_elim, List, [], ◌∷◌, ◌++◌, length, slice_index, refl, ap, ◌∙◌, arith}
 use Rattle.std.proofs.lemmas.Bool.{eq-eqb, eqb-true, cases_Bool}
 use Rattle.std.proofs.lemmas.Bool.Decides.{nat_tests}
-use Rattle.std.proofs.lemmas.List.Sums.{sum_by-cons, sum_by-append}
-use Rattle.state_sums.specs.Networks.{times_in, IsPairing}
+use Rattle.std.proofs.lemmas.List.Sums.{sum_by-cons}
+use Rattle.state_sums.specs.Networks.{IsPairing}
 use Rattle.arc_gluing.specs.Mates.{ends_of, pairs_below}
+use Rattle.list_lemmas.specs.Times.{times_in}
+use Rattle.list_lemmas.proofs.Times.{times_in-append}
 
 -- the sum of f over the numbers below n
 abbrev pub sum_below : (ℕ → ℕ) → ℕ → ℕ
@@ -50,9 +50,6 @@ times_in-below (y ∷ names) x =
     let e = sum_by-cons (λ z. cond (x == z) 1 0) y names in
     let f = sum_below-front (λ i. cond (x == slice_index (y ∷ names) i) 1 0) (length names) in
     omega (arith, ih, e, f)
-
-pub times_in-append : (xs ys : List ℕ) (x : ℕ) → times_in (xs ++ ys) x ≡ times_in xs x + times_in ys x
-times_in-append xs ys x = sum_by-append (λ z. cond (x == z) 1 0) xs ys
 
 pub ends_of-append : (es fs : List (ℕ × ℕ)) → ends_of (es ++ fs) ≡ ends_of es ++ ends_of fs
 ends_of-append [] fs = refl

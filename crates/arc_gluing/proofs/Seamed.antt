@@ -1,7 +1,5 @@
 -- The gluing at slots, told by names: the mates of the slots that are left give the partners by parts, and the loops are the
 -- parts with no name that is left.
---
--- Others cite: range_times, paired, partners_are, loops, left_small.
 use Rattle.std.proofs.Common.{◌≡◌, ℕ, zero, suc, ◌+◌, ◌≤◌, ◌<◌, true, cond, ◌==◌, ⊎_elim, List, ◌++◌, map, length, slice_index, refl, sym, ap, subst, ◌∙◌, arith}
 use Rattle.std.specs.Set.{is_member}
 use Rattle.std.specs.List.{range_with_len}
@@ -14,7 +12,7 @@ use Rattle.graph_parts.proofs.Ends.{is_member-get_or}
 use Rattle.graph_parts.specs.Ends.{EndsAre}
 use Rattle.graph_parts.specs.Patterns.{label_closed}
 use Rattle.graph_parts.specs.Renaming.{renamed}
-use Rattle.state_sums.specs.Networks.{times_in, IsPairing}
+use Rattle.state_sums.specs.Networks.{IsPairing}
 use Rattle.std.proofs.Common.{not, nat_lt}
 use Rattle.std.proofs.lemmas.Bool.{cases_Bool}
 use Rattle.std.proofs.lemmas.List.Sums.{sum_by-cons}
@@ -25,15 +23,16 @@ use Rattle.graph_parts.proofs.PatternLabels.{closed_parts-labels}
 use Rattle.arc_gluing.specs.Mates.{mates_after, loops_after, ends_of, pairs_below, IsMated, IsPairedLabels}
 use Rattle.arc_gluing.specs.Pairings.{pair_edges, IsPairedBy, partners_of}
 use Rattle.arc_gluing.specs.Seams.{IsLeft, AreSlots, IsSeam}
-use Rattle.arc_gluing.proofs.AllEdges.{times_of_member, member_of_times}
+use Rattle.list_lemmas.specs.Times.{times_in}
 use Rattle.arc_gluing.proofs.ByParts.{IsPairedBy-from_labels}
 use Rattle.arc_gluing.proofs.Copied.{copied}
 use Rattle.arc_gluing.proofs.Glued.{EndsAre-both, glued, loops-closed}
 use Rattle.arc_gluing.proofs.GluingLaws.{one_pairing_by_parts, open_among}
-use Rattle.arc_gluing.proofs.Items.{below_member, member_at, all_below, all_pass_at}
-use Rattle.arc_gluing.proofs.PointPairs.{times_in-append, times_in-pairs}
+use Rattle.list_lemmas.proofs.Times.{times_of_member, member_of_times, times_in-append}
+use Rattle.arc_gluing.proofs.PointPairs.{times_in-pairs}
 use Rattle.arc_gluing.proofs.SlotNames.{IsPairedLabels-named, label_closed-named, pair_edges-map}
 use Rattle.arc_gluing.proofs.Slots.{slots_are, slots_left, left_long, left_named, range_named}
+use Rattle.list_lemmas.proofs.Items.{below_member, member_at, all_below, all_pass_at}
 
 -- each number of a range stands there once
 pub range_times : (a n x : ℕ) → (times_in (range_with_len a n) x ≤ 1) × (x < a → times_in (range_with_len a n) x ≡ 0)

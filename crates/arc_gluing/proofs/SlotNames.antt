@@ -1,6 +1,4 @@
 -- Slots in the place of names: a pairing of slots is one of their names, and as many parts are closed.
---
--- Others cite: IsPairedLabels-named, label_closed-named, pair_edges-map.
 use Rattle.std.proofs.Common.{◌≡◌, ℕ, ◌<◌, true, ◌==◌, List, map, length, slice_index, zip, sym, ap, ◌∙◌, arith}
 use Rattle.std.specs.Set.{is_member}
 use Rattle.std.specs.List.{AllPass, All}

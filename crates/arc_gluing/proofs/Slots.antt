@@ -1,6 +1,4 @@
 -- The facts of a seam, read at slots: no two slots tell one name, and the slots that are left are those that stand once.
---
--- Others cite: increases, found_in, slots_are, slots_left, left_named.
 use Rattle.std.proofs.Common.{◌≡◌, ℕ, zero, suc, ◌+◌, ◌<◌, true, false, cond, not, ◌==◌, ⊎_elim, List, [], ◌∷◌, ◌++◌, map, length, slice_index, refl, sym, ap, ◌∙◌, arith, length-append}
 use Rattle.std.specs.List.{range_with_len}
 use Rattle.std.specs.List.Sorted.{IsStrictlyIncreasing}
@@ -14,13 +12,12 @@ use Rattle.graph_parts.proofs.Counting.{is_member-map}
 use Rattle.graph_parts.proofs.Distinct.{is_member-append}
 use Rattle.graph_parts.proofs.Ends.{is_member-get_or}
 use Rattle.graph_parts.proofs.Numbered.{is_member-numbered, numbered-member}
-use Rattle.state_sums.specs.Networks.{times_in}
+use Rattle.list_lemmas.specs.Times.{times_in}
 use Rattle.arc_gluing.specs.Seams.{place_in, IsLeft, AreSlots, IsSeam}
-use Rattle.arc_gluing.proofs.AllEdges.{times_of_member, member_of_times}
-use Rattle.arc_gluing.proofs.Items.{member_at, same_items, get_front}
+use Rattle.list_lemmas.proofs.Times.{times_of_member, member_of_times, times_in-append, times_none}
+use Rattle.list_lemmas.proofs.Items.{member_at, same_items, get_front}
 use Rattle.arc_gluing.proofs.OneEdge.{same_or_not}
 use Rattle.arc_gluing.proofs.Places.{first_place}
-use Rattle.arc_gluing.proofs.PointPairs.{times_in-append}
 
 -- of increasing numbers each is below all later ones
 pub increases : (xs : List ℕ) → IsStrictlyIncreasing xs → (i j : ℕ) → i < j → j < length xs → slice_index xs i < slice_index xs j
@@ -58,11 +55,6 @@ times_in-map f g (y ∷ xs) x h k =
     let same : f x ≡ f y → x ≡ y = λ e. sym k ∙ ap g e ∙ there in
     let back : x ≡ y → f x ≡ f y = λ e. ap f e in
     grind (arith, nat_tests, ih, a, b, same, back)
-
-times_none : (xs : List ℕ) (x : ℕ) → is_member ◌==◌ xs x ≡ false → times_in xs x ≡ 0
-times_none xs x f =
-    let k = member_of_times x xs in
-    ⊎_elim (λ t. let z = t in grind (arith, nat_tests, z)) (λ n. let z = n in absurd (grind (arith, nat_tests, k, z, f))) (cases_Bool (times_in xs x == 0))
 
 module _ (names ends left end_slots left_slots places : List ℕ) (h : IsSeam names ends left end_slots left_slots places) where
   abbrev all : List ℕ

@@ -1,6 +1,4 @@
 -- The pairs of a pairing stand in for the edges that gave it, under any edges that meet these at paired names alone.
---
--- Others cite: label_closed-pairing, IsPairedLabels-through, pattern-from_pairing, pairing-from_pattern, one_pairing.
 use Rattle.std.proofs.Common.{◌≡◌, ℕ, ◌+◌, ◌<◌, Bool, true, ◌==◌, ⊎_elim, List, ◌++◌, length, slice_index, zip, sym, ap, ◌∙◌, arith}
 use Rattle.std.specs.Set.{is_member}
 use Rattle.std.specs.List.{AllPass}
@@ -9,7 +7,7 @@ use Rattle.std.proofs.lemmas.List.Elements.{All-weaker}
 use Rattle.arc_gluing.proofs.Kept.{Keeps, Keeps-own, Keeps-zip, zip-Keeps, kept}
 use Rattle.arc_gluing.proofs.OneEdge.{same_or_not}
 use Rattle.graph_parts.proofs.Agreement.{from_All}
-use Rattle.arc_gluing.proofs.Items.{same_items, member_at}
+use Rattle.list_lemmas.proofs.Items.{same_items, member_at}
 use Rattle.graph_parts.proofs.Agreement.{eqb_from_iff, label_count-agree, label_count-swap}
 use Rattle.graph_parts.proofs.Counting.{label_after-append, Agree-after}
 use Rattle.graph_parts.proofs.Distinct.{is_member-append}

@@ -7,10 +7,11 @@ use Rattle.std.specs.Prelude.{◌≡◌, ℕ, ◌+◌, ◌*◌, ◌^◌, ◌≤�
 use Rattle.std.specs.List.{All}
 use Rattle.graph_parts.specs.Ends.{AreAmong}
 use Rattle.graph_parts.specs.Patterns.{closed_parts}
-use Rattle.state_sums.specs.Networks.{Node, Term, IsNode, names_of, times_in}
+use Rattle.state_sums.specs.Networks.{Node, Term, IsNode, names_of}
 use Rattle.state_sums.specs.StateSums.{states, state_edges, state_sum}
 use Rattle.arc_gluing.specs.Pairings.{pair_edges, IsPairedBy, partners_of, AreOpen}
 use Rattle.arc_gluing.specs.Sums.{pairing_sum, worth_before}
+use Rattle.list_lemmas.specs.Times.{times_in}
 
 -- No name stands more than twice in the nodes.
 abbrev pub AreFew : List Node → Type 0
@@ -39,8 +40,8 @@ pub record IsGluedTo (nodes : List Node) (node : Node) (inner outer : List ℕ) 
       closed_parts (names_of (nodes ++ node ∷ [])) (state_edges (nodes ++ node ∷ []) (state ++ term ∷ [])) outer
       ≡ closed_parts (names_of nodes) (state_edges nodes state) inner + closed_parts (inner ++ node.ends) edges outer
 
-abbrev pub GluingLaw : Type 0
-GluingLaw =
+abbrev pub GluedNodeLaw : Type 0
+GluedNodeLaw =
     (nodes : List Node) (node : Node) (inner outer : List ℕ) → All IsNode nodes → IsNode node →
     AreFew (nodes ++ node ∷ []) → AreOpen (names_of nodes) inner → AreOpen (names_of (nodes ++ node ∷ [])) outer →
     All (λ state. All (λ term. IsGluedTo nodes node inner outer state term) node.terms) (states nodes)

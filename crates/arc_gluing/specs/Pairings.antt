@@ -13,7 +13,8 @@ use Rattle.std.specs.List.{position_or_len, zip}
 use Rattle.std.specs.Set.{is_member}
 use Rattle.graph_parts.specs.Parts.{part}
 use Rattle.graph_parts.specs.Walks.{Joined}
-use Rattle.state_sums.specs.Networks.{IsPairing, times_in}
+use Rattle.state_sums.specs.Networks.{IsPairing}
+use Rattle.list_lemmas.specs.Times.{times_in}
 
 -- Edges between the names of points and of their partners.
 abbrev pub pair_edges : List ℕ → List ℕ → List (ℕ × ℕ)

@@ -1,6 +1,6 @@
 //! The laws of gluing: each function has an empty body, and its contract is the law. They are stated in `specs/Laws.antt`.
 
-ghost use Rattle.arc_gluing.specs.Laws.{PairedStatesLaw, OnePairingLaw, GluingLaw, OneMoreNodeLaw, WholeNetworkLaw};
+ghost use Rattle.arc_gluing.specs.Laws.{PairedStatesLaw, OnePairingLaw, GluedNodeLaw, OneMoreNodeLaw, WholeNetworkLaw};
 
 /// Where no name stands three times, each state of some nodes pairs the names that stand once.
 pub fn paired_states()
@@ -13,8 +13,8 @@ pub fn one_pairing()
 {}
 
 /// Gluing: with one more node, the pairing and the closed parts of each state follow from those of the state before.
-pub fn gluing()
-    ensures { GluingLaw }
+pub fn glued_node()
+    ensures { GluedNodeLaw }
 {}
 
 /// Gluing in sums over all states, whatever each pairing is worth.

@@ -5,4 +5,4 @@
 
 mod laws;
 
-pub use laws::{gluing, one_more_node, one_pairing, paired_states, whole_network};
+pub use laws::{glued_node, one_more_node, one_pairing, paired_states, whole_network};

@@ -8,7 +8,7 @@ use Rattle.std.specs.List.{range_with_len}
 use Rattle.std.proofs.Math.ListN.{set, length-set}
 use Rattle.std.proofs.lemmas.Bool.{cases_lt}
 use Rattle.std.proofs.lemmas.List.FromFn.{length-range_with_len, get_or-range_with_len}
-use Rattle.arc_gluing.proofs.Items.{get_past}
+use Rattle.list_lemmas.proofs.Items.{get_past}
 use Rattle.arc_gluing.proofs.OneEdge.{same_or_not}
 
 pub record AreFirstMates (partners mates : List ℕ) (point : ℕ) : Type 0 where

@@ -7,7 +7,7 @@ use Rattle.graph_parts.specs.Patterns.{closed_parts}
 use Rattle.arc_gluing.specs.Mates.{mates_after, loops_after, pairs_below}
 use Rattle.arc_gluing.specs.Pairings.{pair_edges, IsPairedBy, partners_of}
 use Rattle.arc_gluing.specs.Seams.{IsSeam}
-use Rattle.arc_gluing.proofs.Items.{get_past}
+use Rattle.list_lemmas.proofs.Items.{get_past}
 use Rattle.arc_gluing.proofs.Seamed.{paired, partners_are, loops, left_small}
 use Rattle.arc_gluing.proofs.Slots.{slots_are}
 use Rattle.arc_pairing.specs.Gluing.{Seam, glued_edges}

@@ -12,18 +12,18 @@ use Rattle.std.proofs.lemmas.List.{get_or-map, length-map, length-take-le, take-
 use Rattle.std.proofs.lemmas.List.Sorted.{sum_by-IsPermutation}
 use Rattle.std.proofs.lemmas.List.Sums.{length-filter, count_by-le-length, position_or_len_is}
 use Rattle.graph_parts.proofs.Ends.{is_member-get_or}
-use Rattle.state_sums.specs.Networks.{times_in}
+use Rattle.list_lemmas.specs.Times.{times_in}
 use Rattle.arc_gluing.specs.Pairings.{AreOpen}
 use Rattle.arc_gluing.specs.Seams.{place_in, IsSeam}
-use Rattle.arc_gluing.proofs.AllEdges.{times_of_member, member_of_times}
-use Rattle.arc_gluing.proofs.EachState.{AreOpen-singles}
+use Rattle.list_lemmas.proofs.Times.{times_of_member, member_of_times}
+use Rattle.arc_gluing.proofs.EachState.{AreOpen-open_names_in}
 use Rattle.arc_gluing.proofs.OneEdge.{same_or_not}
 use Rattle.arc_gluing.proofs.Places.{AreOnce-from_times}
 use Rattle.arc_gluing.proofs.Slots.{found_in}
 
 -- ---- the names that stand once
 pub open_permuted : (all found : List ℕ) → IsPermutation (filter (λ x. times_in all x == 1) all) found → AreOpen all found
-open_permuted all found p = record { once = λ x. let f = (AreOpen-singles all).once x in let e = sum_by-IsPermutation (λ z. cond (x == z) 1 0) (filter (λ y. times_in all y == 1) all) found p in omega (arith, f, e) }
+open_permuted all found p = record { once = λ x. let f = (AreOpen-open_names_in all).once x in let e = sum_by-IsPermutation (λ z. cond (x == z) 1 0) (filter (λ y. times_in all y == 1) all) found p in omega (arith, f, e) }
 
 pub increasing_permuted : (all found : List ℕ) → AreOpen all found → IsNonDecreasing found → IsStrictlyIncreasing found
 increasing_permuted all found h up k l =

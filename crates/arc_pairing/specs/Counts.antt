@@ -3,7 +3,7 @@
 --     IsLeastMiscount names name count    name stands count times, not twice, and each smaller name of the list twice
 use Rattle.std.specs.Prelude.{◌≡◌, ◌≢◌, ℕ, ◌<◌, ◌≤◌, ◌==◌, true, List}
 use Rattle.std.specs.Set.{is_member}
-use Rattle.state_sums.specs.Networks.{times_in}
+use Rattle.list_lemmas.specs.Times.{times_in}
 
 -- Each name of the list stands in it exactly twice.
 abbrev pub StandsTwice : List ℕ → ℕ → Type 0

@@ -6,7 +6,7 @@
 --     single_count names          how many names stand once: 1 of 5, 5, 7
 use Rattle.std.specs.Prelude.{ℕ, ◌==◌, List, ◌++◌}
 use Rattle.std.specs.List.{count_by}
-use Rattle.state_sums.specs.Networks.{times_in}
+use Rattle.list_lemmas.specs.Times.{times_in}
 use Rattle.arc_gluing.specs.Pairings.{pair_edges}
 
 -- The names of the points before, the names of the node's ends, and the names that are left.

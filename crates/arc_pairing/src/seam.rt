@@ -3,7 +3,7 @@
 ghost use Rattle.std.specs.Prelude.{◌≡◌, ◌<◌, ◌≤◌, ◌==◌, ◌++◌, ◌↔◌, ℕ, length, map, slice_index, IfOk};
 ghost use Rattle.std.specs.List.{filter};
 ghost use Rattle.std.specs.List.Sorted.{IsStrictlyIncreasing};
-ghost use Rattle.state_sums.specs.Networks.{times_in};
+ghost use Rattle.list_lemmas.specs.Times.{times_in};
 ghost use Rattle.arc_gluing.specs.Pairings.{AreOpen};
 ghost use Rattle.arc_gluing.specs.Seams.{place_in};
 ghost use Rattle.arc_pairing.specs.Gluing.{single_count};

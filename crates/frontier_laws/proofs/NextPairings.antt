@@ -11,7 +11,7 @@ use Rattle.state_sums.specs.Networks.{Node, Term, IsNode, names_of}
 use Rattle.state_sums.specs.StateSums.{states, state_edges}
 use Rattle.arc_gluing.specs.Laws.{AreFew, IsGluedTo}
 use Rattle.arc_gluing.specs.Pairings.{partners_of, IsPairedBy, AreOpen}
-use Rattle.arc_gluing.proofs.GluingLaws.{paired_states, gluing}
+use Rattle.arc_gluing.proofs.GluingLaws.{paired_states, glued_node}
 use Rattle.arc_pairing.specs.Gluing.{Seam, glued_edges}
 use Rattle.arc_pairing.specs.Pairings.{IsShortPairing}
 use Rattle.frontier_laws.specs.Orders.{open_names}
@@ -71,7 +71,7 @@ pairings_after nodes node ok node_ok few open_in open_out =
     ap (map after) (states_after nodes node)
     ∙ map-flat_map after (λ state. map (λ term. state ++ term ∷ []) node.terms) (states nodes)
     ∙ flat_map_all (λ state. All (λ term. IsGluedTo nodes node inner outer state term) node.terms) (λ state. map after (map (λ term. state ++ term ∷ []) node.terms)) (λ state. map (glue (before state)) node.terms) (states nodes)
-    (gluing nodes node inner outer ok node_ok few open_in open_out)
+    (glued_node nodes node inner outer ok node_ok few open_in open_out)
     (λ state each.
     map_map after (λ term. state ++ term ∷ []) node.terms
     ∙ map_all (λ term. IsGluedTo nodes node inner outer state term) (λ term. after (state ++ term ∷ [])) (glue (before state)) node.terms each (λ term glued. glued.pairing))

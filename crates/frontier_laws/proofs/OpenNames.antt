@@ -6,24 +6,25 @@ use Rattle.std.specs.List.Sorted.{IsStrictlyIncreasing}
 use Rattle.std.specs.Set.{is_member}
 use Rattle.std.proofs.lemmas.Bool.Decides.{nat_tests}
 use Rattle.std.proofs.lemmas.List.Sums.{length-filter}
-use Rattle.state_sums.specs.Networks.{Node, names_of, times_in}
+use Rattle.state_sums.specs.Networks.{Node, names_of}
 use Rattle.arc_gluing.specs.Laws.{AreFew}
 use Rattle.arc_gluing.specs.Pairings.{AreOpen}
-use Rattle.arc_gluing.proofs.AllEdges.{member_of_times}
-use Rattle.arc_gluing.proofs.EachState.{singles, AreOpen-singles, times_in-more}
-use Rattle.arc_gluing.proofs.PointPairs.{times_in-append}
+use Rattle.list_lemmas.specs.Times.{times_in}
+use Rattle.arc_gluing.proofs.EachState.{times_in-more, AreOpen-open_names_in}
+use Rattle.list_lemmas.proofs.Times.{member_of_times, times_in-append}
 use Rattle.arc_pairing.specs.Gluing.{single_count}
 use Rattle.arc_pairing.proofs.SeamLists.{increasing_permuted}
 use Rattle.frontier_laws.specs.Orders.{increasing, open_names}
 use Rattle.frontier_laws.specs.Turns.{open_count}
 use Rattle.frontier_laws.proofs.OpenNamesSorted.{times_increasing, length_increasing, non_decreasing_increasing, one_increasing}
+use Rattle.state_sums.specs.LocalSums.{open_names_in}
 
 -- The names that stand once in a list, increasing.
-AreOpen-sorted : (names : List ℕ) → AreOpen names (increasing (singles names))
-AreOpen-sorted names = record { once = λ x. times_increasing (singles names) x ∙ (AreOpen-singles names).once x }
+AreOpen-sorted : (names : List ℕ) → AreOpen names (increasing (open_names_in names))
+AreOpen-sorted names = record { once = λ x. times_increasing (open_names_in names) x ∙ (AreOpen-open_names_in names).once x }
 
-increasing-sorted : (names : List ℕ) → IsStrictlyIncreasing (increasing (singles names))
-increasing-sorted names = increasing_permuted names (increasing (singles names)) (AreOpen-sorted names) (non_decreasing_increasing (singles names))
+increasing-sorted : (names : List ℕ) → IsStrictlyIncreasing (increasing (open_names_in names))
+increasing-sorted names = increasing_permuted names (increasing (open_names_in names)) (AreOpen-sorted names) (non_decreasing_increasing (open_names_in names))
 
 -- The open names are those that stand once.
 pub AreOpen-open_names : (nodes : List Node) → AreOpen (names_of nodes) (open_names nodes)
@@ -79,8 +80,8 @@ module _ (nodes : List Node) (node : Node) (few : AreFew (nodes ++ node ∷ []))
   open_count-after =
       let names = open_names nodes ++ node.ends in
       sym (length-filter (λ x. times_in names x == 1) names)
-      ∙ sym (length_increasing (singles names))
-      ∙ ap length (open_after (increasing (singles names)) (AreOpen-sorted names) (increasing-sorted names))
+      ∙ sym (length_increasing (open_names_in names))
+      ∙ ap length (open_after (increasing (open_names_in names)) (AreOpen-sorted names) (increasing-sorted names))
 
   -- None of the names that were open before and of the node's ends stands more than twice.
   pub few_after : (x : ℕ) → times_in (open_names nodes ++ node.ends) x ≤ 2

@@ -11,9 +11,9 @@ use Rattle.std.proofs.lemmas.List.Elements.{All-cons, All-weaker}
 use Rattle.std.proofs.lemmas.List.Kept.{AllPairs-cons, AllPairs-from_increasing}
 use Rattle.std.proofs.lemmas.List.Sorted.{IsPermutation-cons, IsPermutation-refl, IsPermutation-remove, IsPermutation-trans, sum_by-IsPermutation}
 use Rattle.std.proofs.lemmas.List.Sums.{sum_by-cons}
-use Rattle.state_sums.specs.Networks.{times_in}
-use Rattle.arc_gluing.proofs.AllEdges.{member_of_times}
-use Rattle.arc_gluing.proofs.Items.{member_at}
+use Rattle.list_lemmas.specs.Times.{times_in}
+use Rattle.list_lemmas.proofs.Times.{member_of_times}
+use Rattle.list_lemmas.proofs.Items.{member_at}
 use Rattle.frontier_laws.specs.Orders.{placed, increasing}
 
 -- ---- how often a number stands in a list

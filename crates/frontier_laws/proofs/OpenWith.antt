@@ -6,10 +6,10 @@ use Rattle.std.specs.List.{count_by}
 use Rattle.std.specs.Set.{is_member}
 use Rattle.std.proofs.lemmas.Bool.Decides.{nat_tests}
 use Rattle.std.proofs.lemmas.List.Sums.{sum_by-append}
-use Rattle.state_sums.specs.Networks.{Node, times_in}
+use Rattle.state_sums.specs.Networks.{Node}
 use Rattle.graph_parts.proofs.PartLaws.{count_by_all}
-use Rattle.arc_gluing.proofs.AllEdges.{times_of_member, member_of_times}
-use Rattle.arc_gluing.proofs.PointPairs.{times_in-append}
+use Rattle.list_lemmas.specs.Times.{times_in}
+use Rattle.list_lemmas.proofs.Times.{times_of_member, member_of_times, times_in-append}
 use Rattle.arc_pairing.specs.Gluing.{single_count}
 use Rattle.frontier_laws.specs.Orders.{open_names}
 use Rattle.frontier_laws.proofs.OpenNames.{AreOpen-open_names}

@@ -13,10 +13,9 @@ use Rattle.std.proofs.lemmas.List.Kept.{AllPairs-from_increasing, IsStrictlyIncr
 use Rattle.std.proofs.lemmas.List.Sorted.{length_permutation}
 use Rattle.graph_parts.proofs.Distinct.{is_member-append}
 use Rattle.graph_parts.proofs.Numbered.{is_member-numbered, numbered-member}
-use Rattle.state_sums.specs.Networks.{times_in}
-use Rattle.arc_gluing.proofs.AllEdges.{times_of_member, member_of_times}
-use Rattle.arc_gluing.proofs.Items.{member_at}
-use Rattle.arc_gluing.proofs.PointPairs.{times_in-append}
+use Rattle.list_lemmas.specs.Times.{times_in}
+use Rattle.list_lemmas.proofs.Times.{times_of_member, member_of_times, times_in-append}
+use Rattle.list_lemmas.proofs.Items.{member_at}
 use Rattle.arc_gluing.proofs.Seamed.{range_times}
 use Rattle.frontier_laws.specs.Orders.{left_after, IsPartOrder}
 use Rattle.frontier_laws.proofs.OpenNamesSorted.{times_cons, times_filter, permuted_times}

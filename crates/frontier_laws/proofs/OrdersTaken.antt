@@ -9,13 +9,13 @@ use Rattle.std.proofs.lemmas.List.Elements.{All-get_or, All-map, All-weaker}
 use Rattle.std.proofs.lemmas.List.FromFn.{fill_by_all}
 use Rattle.std.proofs.lemmas.List.Sorted.{IsPermutation-map, sum_by-IsPermutation}
 use Rattle.std.proofs.lemmas.List.Sums.{sum_by-cons}
-use Rattle.state_sums.specs.Networks.{Node, Network, IsNode, IsNetwork, names_of, times_in}
+use Rattle.state_sums.specs.Networks.{Node, Network, IsNode, IsNetwork, names_of}
 use Rattle.state_sums.specs.StateSums.{value}
 use Rattle.state_sums.proofs.NetworkLaws.{any_order}
 use Rattle.arc_gluing.specs.Laws.{AreFew}
-use Rattle.arc_gluing.proofs.AllEdges.{member_of_times}
+use Rattle.list_lemmas.specs.Times.{times_in}
 use Rattle.arc_gluing.proofs.EachState.{names_of-append}
-use Rattle.arc_gluing.proofs.PointPairs.{times_in-append}
+use Rattle.list_lemmas.proofs.Times.{member_of_times, times_in-append}
 use Rattle.frontier_laws.specs.Orders.{node_at, taken, left_after, open_names, view_after, IsPartOrder}
 use Rattle.frontier_laws.proofs.OpenNames.{open_names-same, open_names-closed}
 use Rattle.frontier_laws.proofs.OrdersPlaces.{left_increasing, left_all_below, order_and_left, taken_again}

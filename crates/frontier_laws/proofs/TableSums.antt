@@ -9,7 +9,7 @@ use Rattle.std.proofs.lemmas.List.Sums.{sum_by-cons}
 use Rattle.graph_parts.specs.Patterns.{closed_parts}
 use Rattle.state_sums.specs.Networks.{Node, Term}
 use Rattle.state_sums.proofs.Congruent.{add_same_mod, mul_same_mod}
-use Rattle.state_sums.proofs.Sums.{sum_by_same, sum_by-map, sum_by-flat_map, sum_by-times}
+use Rattle.list_lemmas.proofs.Sums.{sum_by_same, sum_by-map, sum_by-flat_map, sum_by-times}
 use Rattle.arc_gluing.specs.Pairings.{partners_of}
 use Rattle.arc_gluing.specs.Sums.{worth_before}
 use Rattle.arc_pairing.specs.Codes.{code_of}

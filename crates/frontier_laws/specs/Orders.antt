@@ -20,8 +20,9 @@ use Rattle.std.specs.Prelude.{ℕ, ◌+◌, ◌<◌, ◌≤◌, ◌==◌, nat_lt
 use Rattle.std.specs.List.{All, filter, fold, position, range_with_len}
 use Rattle.std.specs.Option.{unwrap_or}
 use Rattle.std.specs.Set.{is_member}
-use Rattle.state_sums.specs.Networks.{Node, Network, names_of, times_in}
+use Rattle.state_sums.specs.Networks.{Node, Network, names_of}
 use Rattle.arc_pairing.specs.Gluing.{single_count}
+use Rattle.list_lemmas.specs.Times.{times_in}
 
 -- The node at that place; past the end, one with no end and no term.
 abbrev pub node_at : List Node → ℕ → Node

@@ -9,7 +9,7 @@ use Rattle.std.specs.Set.{is_member}
 use Rattle.std.proofs.lemmas.List.{get_or-map, get_or_default, take-map, length-map, length-append}
 use Rattle.std.proofs.Math.Nat.{mul-le-mul}
 use Rattle.std.proofs.lemmas.List.Elements.{All-get_or, All-nil}
-use Rattle.state_sums.specs.Networks.{Node, Network, Term, IsNode, WeightsBelow, names_of, times_in}
+use Rattle.state_sums.specs.Networks.{Node, Network, Term, IsNode, WeightsBelow, names_of}
 use Rattle.arc_gluing.specs.Laws.{AreFew}
 use Rattle.arc_gluing.specs.Pairings.{AreOpen}
 use Rattle.arc_pairing.specs.Gluing.{Seam, single_count}
@@ -32,6 +32,7 @@ use Rattle.frontier_sweep.specs.NotGluedNodes.{Explains}
 use Rattle.frontier_sweep.specs.Steps.{IsReady, IsSeamOf, OverflowsIn, OverflowsAt}
 use Rattle.frontier_sweep.specs.declared.step.NotGlued.{NotGlued}
 use Rattle.frontier_sweep.specs.declared.step.NotGlued.TheVariants.{Wide, Full, Memory}
+use Rattle.list_lemmas.specs.Times.{times_in}
 
 -- The node at a place that is left is taken.
 pub record IsTaking (m : ℕ) (network : Network) (frontier : Frontier) (place : ℕ) (node : Node) : Type 0 where

@@ -12,12 +12,13 @@ use Rattle.std.specs.List.{All}
 use Rattle.std.specs.List.Sorted.{IsStrictlyIncreasing}
 use Rattle.std.specs.Map.{keys_of}
 use Rattle.std.specs.Set.{is_member}
-use Rattle.state_sums.specs.Networks.{Node, Term, times_in}
+use Rattle.state_sums.specs.Networks.{Node, Term}
 use Rattle.arc_gluing.specs.Pairings.{AreOpen}
 use Rattle.arc_pairing.specs.Codes.{code_of}
 use Rattle.arc_pairing.specs.Gluing.{Seam}
 use Rattle.arc_pairing.specs.Pairings.{IsShortPairing}
 use Rattle.frontier_laws.specs.Tables.{decoded, add_all, contribution, contributions}
+use Rattle.list_lemmas.specs.Times.{times_in}
 
 -- The term pairs the ends of the node, and its weight is below m.
 pub record FitsSeam (m : ℕ) (seam : Seam) (term : Term) : Type 0 where

@@ -2,7 +2,7 @@
 
 ghost use Rattle.std.specs.Prelude.{◌≡◌, ◌<◌, ◌≤◌, ◌+◌, ◌*◌, ◌^◌, ◌==◌, ℕ, [], length, map, take, get_or, false, ◌++◌, OnOk, IfOk, IfErr};
 ghost use Rattle.std.specs.List.Sorted.{IsStrictlyIncreasing};
-ghost use Rattle.state_sums.specs.Networks.{times_in};
+ghost use Rattle.list_lemmas.specs.Times.{times_in};
 ghost use Rattle.arc_pairing.specs.Nodes.{IsShortNode};
 ghost use Rattle.frontier_sweep.specs.NotGluedNodes.{Explains};
 ghost use Rattle.std.specs.List.{All};

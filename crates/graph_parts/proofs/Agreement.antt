@@ -1,7 +1,5 @@
 -- Two labellings that tell the same pairs of names apart count the same labels; and two lists of edges do so where they
 -- join the same names.
---
--- Others cite: label_count-agree, label_count-swap, Agree-from_Joined, Agree-same_edges, eqb_from_iff, from_All, to_All.
 use Rattle.std.proofs.Common.{◌≡◌, ℕ, Bool, true, ◌==◌, List, [], ◌∷◌, ◌++◌, map, refl, sym, ap, ◌∙◌, arith, ◌⊎◌, ⊎_elim, ◌↔◌, Contains}
 use Rattle.std.specs.List.{AllPass}
 use Rattle.std.specs.Set.{is_member, distinct_count}

@@ -1,37 +1,34 @@
 -- The counting lemma: one more edge between names of a list lowers the number of their labels by one where its ends had
 -- different labels, and else keeps it. And the contraction lemma: two lists of edges that tell the same pairs apart, of the
 -- names that pass a test, are interchangeable under further edges between such names.
---
--- Others cite: label_count-relabel (counting), label_count_after and label_count-contract (contraction), Agree-relabel,
--- Agree-after, label_after-append, distinct_count-cons, is_member-map.
 use Rattle.std.proofs.Common.{◌≡◌, ℕ, ◌+◌, Bool, true, false, cond, ◌&&◌, ◌||◌, ◌==◌, ◌≢◌, List, [], ◌∷◌, ◌++◌, map, length, refl, ap, arith}
 use Rattle.std.proofs.lemmas.Bool.Decides.{nat_tests}
 use Rattle.std.proofs.lemmas.List.Sums.{fold-append}
 use Rattle.std.specs.Set.{is_member, distinct_count, unique_keys}
-use Rattle.graph_parts.specs.Renaming.{turned}
+use Rattle.graph_parts.specs.Renaming.{replaced}
 use Rattle.graph_parts.specs.Ends.{EndsAre, AreAmong}
 use Rattle.graph_parts.specs.Labels.{relabel, label_after, label_of, label_count, Agree}
 
 pub distinct_count-cons : (x : ℕ) (xs : List ℕ) → distinct_count ◌==◌ (x ∷ xs) ≡ cond (is_member ◌==◌ xs x) 0 1 + distinct_count ◌==◌ xs
 distinct_count-cons x xs = elim (is_member ◌==◌ xs x) as (λ b. length (cond b (unique_keys ◌==◌ xs) (x ∷ unique_keys ◌==◌ xs)) ≡ cond b 0 1 + distinct_count ◌==◌ xs) [ true ↦ omega arith | false ↦ omega arith ]
 
-is_member-turned_to : (a b : ℕ) (xs : List ℕ) → is_member ◌==◌ (map (turned a b) xs) b ≡ (is_member ◌==◌ xs a || is_member ◌==◌ xs b)
-is_member-turned_to a b [] = refl
-is_member-turned_to a b (x ∷ xs) = let ih = is_member-turned_to a b xs in grind (arith, nat_tests, ih)
+is_member-replaced_to : (a b : ℕ) (xs : List ℕ) → is_member ◌==◌ (map (replaced a b) xs) b ≡ (is_member ◌==◌ xs a || is_member ◌==◌ xs b)
+is_member-replaced_to a b [] = refl
+is_member-replaced_to a b (x ∷ xs) = let ih = is_member-replaced_to a b xs in grind (arith, nat_tests, ih)
 
-is_member-turned_other : (a b c : ℕ) (xs : List ℕ) → c ≢ a → c ≢ b → is_member ◌==◌ (map (turned a b) xs) c ≡ is_member ◌==◌ xs c
-is_member-turned_other a b c [] p q = refl
-is_member-turned_other a b c (x ∷ xs) p q = let ih = is_member-turned_other a b c xs p q in grind (arith, nat_tests, ih)
+is_member-replaced_other : (a b c : ℕ) (xs : List ℕ) → c ≢ a → c ≢ b → is_member ◌==◌ (map (replaced a b) xs) c ≡ is_member ◌==◌ xs c
+is_member-replaced_other a b c [] p q = refl
+is_member-replaced_other a b c (x ∷ xs) p q = let ih = is_member-replaced_other a b c xs p q in grind (arith, nat_tests, ih)
 
-pub distinct_count-turned : (a b : ℕ) (xs : List ℕ) → a ≢ b →
-    distinct_count ◌==◌ (map (turned a b) xs) + cond (is_member ◌==◌ xs a && is_member ◌==◌ xs b) 1 0 ≡ distinct_count ◌==◌ xs
-distinct_count-turned a b [] d = refl
-distinct_count-turned a b (x ∷ xs) d =
-    let ih = distinct_count-turned a b xs d in
+pub distinct_count-replaced : (a b : ℕ) (xs : List ℕ) → a ≢ b →
+    distinct_count ◌==◌ (map (replaced a b) xs) + cond (is_member ◌==◌ xs a && is_member ◌==◌ xs b) 1 0 ≡ distinct_count ◌==◌ xs
+distinct_count-replaced a b [] d = refl
+distinct_count-replaced a b (x ∷ xs) d =
+    let ih = distinct_count-replaced a b xs d in
     let e = distinct_count-cons x xs in
-    let f = distinct_count-cons (turned a b x) (map (turned a b) xs) in
-    let g = is_member-turned_to a b xs in
-    let h = is_member-turned_other a b x xs in
+    let f = distinct_count-cons (replaced a b x) (map (replaced a b) xs) in
+    let g = is_member-replaced_to a b xs in
+    let h = is_member-replaced_other a b x xs in
     grind (arith, nat_tests, ih, e, f, g, h)
 
 -- ---- labels
@@ -39,9 +36,9 @@ pub map_agree : (f g : ℕ → ℕ) (xs : List ℕ) → ((x : ℕ) → f x ≡ g
 map_agree f g [] h = refl
 map_agree f g (x ∷ xs) h = let ih = map_agree f g xs h in let e = h x in cc
 
-pub map_turned : (label : ℕ → ℕ) (a b : ℕ) (xs : List ℕ) → map (λ x. turned a b (label x)) xs ≡ map (turned a b) (map label xs)
-map_turned label a b [] = refl
-map_turned label a b (x ∷ xs) = let ih = map_turned label a b xs in cc
+pub map_replaced : (label : ℕ → ℕ) (a b : ℕ) (xs : List ℕ) → map (λ x. replaced a b (label x)) xs ≡ map (replaced a b) (map label xs)
+map_replaced label a b [] = refl
+map_replaced label a b (x ∷ xs) = let ih = map_replaced label a b xs in cc
 
 pub is_member-map : (f : ℕ → ℕ) (xs : List ℕ) (x : ℕ) → is_member ◌==◌ xs x ≡ true → is_member ◌==◌ (map f xs) (f x) ≡ true
 is_member-map f [] x h = h
@@ -54,8 +51,8 @@ label_count-joined label x y names h =
 pub label_count-apart : (label : ℕ → ℕ) (x y : ℕ) (names : List ℕ) → is_member ◌==◌ names x ≡ true → is_member ◌==◌ names y ≡ true → label x ≢ label y →
     label_count (relabel label (x, y)) names + 1 ≡ label_count label names
 label_count-apart label x y names p q d =
-    let e = map_turned label (label x) (label y) names in
-    let f = distinct_count-turned (label x) (label y) (map label names) d in
+    let e = map_replaced label (label x) (label y) names in
+    let f = distinct_count-replaced (label x) (label y) (map label names) d in
     let g = is_member-map label names x p in
     let h = is_member-map label names y q in
     rw e (grind (arith, f, g, h))

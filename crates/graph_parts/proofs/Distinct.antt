@@ -1,6 +1,4 @@
 -- How many different numbers two lists have together: order does not matter, and what stands in the other list adds none.
---
--- Others cite: is_member-append, distinct_count-swap, distinct_count-absorb, distinct_count-le_from_within.
 use Rattle.std.proofs.Common.{◌≡◌, ℕ, ◌≤◌, true, ◌||◌, ◌==◌, List, [], ◌∷◌, ◌++◌, refl, ap, arith, append-nil}
 use Rattle.std.proofs.lemmas.Bool.Decides.{nat_tests}
 use Rattle.std.proofs.lemmas.List.Elements.{All-head, All-tail}

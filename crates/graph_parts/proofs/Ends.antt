@@ -1,6 +1,4 @@
 -- Ends of edges that are put together.
---
--- Others cite: EndsAre-append, EndsAre-weaker, EndsAre-zip, is_member-itself, is_member-get_or.
 use Rattle.std.proofs.Common.{◌≡◌, ℕ, ◌<◌, Bool, true, ◌==◌, List, [], ◌∷◌, ◌++◌, length, slice_index, zip, refl}
 use Rattle.std.specs.List.{AllPass}
 use Rattle.std.specs.Set.{is_member}

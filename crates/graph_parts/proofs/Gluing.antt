@@ -1,7 +1,5 @@
 -- Gluing: of two graphs that share only the inner open names, the pattern and the closed parts of both together follow
 -- from those of the first and from the second's edges. The first graph's pattern, taken as edges, stands in for it.
---
--- Others cite: label_pattern-glue, label_closed-glue.
 use Rattle.std.proofs.Common.{◌≡◌, ℕ, ◌+◌, true, ◌==◌, List, ◌++◌, map, zip, sym, ap, ◌∙◌, arith}
 use Rattle.std.specs.List.{AllPass}
 use Rattle.std.specs.Set.{is_member}

@@ -1,8 +1,5 @@
 -- Labels that take the smaller of two at each edge are the least names of the parts: they tell the same pairs apart as the
 -- labels of Labels.antt, no label is above its name, and a label's label is itself.
---
--- Others cite: least_name-label (a least name is the label), least_name-Joined (least names tell what is joined),
--- is_least-label (a name is the least of its part exactly where it is its own label).
 use Rattle.std.proofs.Common.{ltb, ◌≡◌, ℕ, ◌≤◌, ◌<◌, true, ◌==◌, List, [], ◌∷◌, min, refl, sym, ◌∙◌, arith, ⊎_elim, ◌⊎◌, inl, inr, ◌↔◌, fold}
 use Rattle.std.specs.Set.{is_member}
 use Rattle.std.proofs.lemmas.Bool.{cases_Bool, cases_order, ltb-true, lt-ltb, eq-eqb, eqb-true, or_left, or_right, or_cases}

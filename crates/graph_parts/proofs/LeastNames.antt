@@ -1,6 +1,4 @@
 -- The number of parts is the number of labels: the names with no smaller name in their part represent the parts.
---
--- Others cite: part_count-labels, and label_count-unique (names that stand twice count once).
 use Rattle.std.proofs.Common.{◌≡◌, ◌≢◌, ℕ, zero, suc, ◌<◌, Bool, true, false, cond, not, ◌==◌, ◌||◌, List, [], ◌∷◌, map, length, get_or, filter, ltb, refl, sym, ap, ◌∙◌, arith, ⊎_elim, All, Any, AllPairs, Contains}
 use Rattle.std.specs.List.{list_any}
 use Rattle.std.specs.Set.{is_member, unique_keys}
@@ -18,6 +16,7 @@ use Rattle.graph_parts.specs.Labels.{label_of, label_count}
 use Rattle.graph_parts.proofs.Counting.{distinct_count-cons, is_member-map}
 use Rattle.graph_parts.proofs.Representatives.{length-AreRepresentatives}
 use Rattle.graph_parts.proofs.Rounds.{part-Joined, part-names}
+use Rattle.list_lemmas.proofs.Members.{member_of}
 
 -- ---- names without repeats
 pub is_member-unique : (names : List ℕ) (x : ℕ) → is_member ◌==◌ (unique_keys ◌==◌ names) x ≡ is_member ◌==◌ names x
@@ -76,9 +75,6 @@ AreAmong-unique names (e ∷ edges) h = (is_member-unique names e.0 ∙ h.0, is_
 -- ---- least names
 contained : (xs : List ℕ) (x : ℕ) → is_member ◌==◌ xs x ≡ true → Contains xs x
 contained xs x m = (is_member-Decides Decides-eqb xs x).0 m
-
-member_of : (xs : List ℕ) (x : ℕ) → Contains xs x → is_member ◌==◌ xs x ≡ true
-member_of xs x c = (is_member-Decides Decides-eqb xs x).1 c
 
 in_filter : (p : ℕ → Bool) (x : ℕ) (xs : List ℕ) → Contains xs x → p x ≡ true → Any (λ y. y ≡ x) (filter p xs)
 in_filter p x [] c h = absurd (omega (arith, c.1))

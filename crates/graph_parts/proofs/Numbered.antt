@@ -1,6 +1,4 @@
 -- Names that are the numbers from 0 on.
---
--- Others cite: is_member-numbered, numbered-member, AreAmong-numbered, unique-numbered (none stands twice).
 use Rattle.std.proofs.Common.{◌≡◌, ℕ, ◌+◌, ◌<◌, true, ◌==◌, List, [], ◌∷◌, sym, ap, ◌∙◌, arith, All, ⊎_elim, zero, suc, false, cond, refl}
 use Rattle.std.specs.List.{range_with_len}
 use Rattle.std.specs.Set.{is_member, unique_keys}

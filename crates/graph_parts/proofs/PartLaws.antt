@@ -1,6 +1,4 @@
 -- The laws of parts, from those of labels and walks.
---
--- Others cite: each by the name of its function in src/laws.rt.
 use Rattle.std.proofs.Common.{zip, ◌≡◌, ℕ, ◌+◌, Bool, true, cond, ◌==◌, List, [], ◌∷◌, ◌++◌, map, refl, sym, ap, ◌∙◌, arith, ◌⊎◌, ⊎_elim, inl, append-nil, Contains, count_by}
 use Rattle.std.specs.List.{AllPass}
 use Rattle.std.specs.Set.{is_member, unique_keys}
@@ -9,7 +7,7 @@ use Rattle.std.proofs.lemmas.List.Elements.{All-map, All-weaker, All-nil, Contai
 use Rattle.graph_parts.proofs.Distinct.{is_member-append, distinct_count-le_from_within}
 use Rattle.graph_parts.specs.Ends.{AreAmong}
 use Rattle.graph_parts.specs.Labels.{label_of, label_count}
-use Rattle.graph_parts.specs.Laws.{RoundsLaw, EquivalenceLaw, NoNamesLaw, JoinedEdgeLaw, ApartEdgeLaw, ContractionLaw, SameEdgesLaw, SameNamesLaw, RenamingLaw, DisjointUnionLaw, RepresentativesLaw, LeastNamesLaw, CountByLeastLaw, PatternGluingLaw, ClosedGluingLaw}
+use Rattle.graph_parts.specs.Laws.{PartsByWalksLaw, PartEquivalenceLaw, NoNamesLaw, JoinedEdgeLaw, ApartEdgeLaw, ContractionLaw, SameEdgesLaw, SameNamesLaw, OtherNamesLaw, DisjointGraphsLaw, AsManyRepresentativesLaw, LeastNamesTellLaw, CountByLeastLaw, PatternGluingLaw, ClosedGluingLaw}
 use Rattle.graph_parts.specs.LeastNames.{least_name}
 use Rattle.graph_parts.specs.Parts.{is_least, part_count}
 use Rattle.graph_parts.specs.Patterns.{pattern, closed_parts, label_pattern}
@@ -28,11 +26,11 @@ use Rattle.graph_parts.proofs.Rounds.{part-Joined, part-names, count_by-cons}
 use Rattle.graph_parts.proofs.Through.{label_count-through}
 use Rattle.graph_parts.proofs.Walks.{Joined-from_labels, labels-from_Joined}
 
-pub parts_by_walks : RoundsLaw
+pub parts_by_walks : PartsByWalksLaw
 parts_by_walks names edges x y among there = part-Joined names edges x y there among
 
-pub equivalence : EquivalenceLaw
-equivalence names edges among = record {
+pub part_equivalence : PartEquivalenceLaw
+part_equivalence names edges among = record {
   itself = λ x there. (parts_by_walks names edges x x among there).1 stay;
   back = λ x y there h.
       let m = part-names names edges x y there among h in
@@ -111,7 +109,7 @@ pub AreAmong-renamed : (rename : ℕ → ℕ) (names : List ℕ) (edges : List (
 AreAmong-renamed rename names [] h = tt
 AreAmong-renamed rename names (e ∷ edges) h = (is_member-map rename names e.0 h.0, is_member-map rename names e.1 h.1, AreAmong-renamed rename names edges h.2)
 
-pub other_names : RenamingLaw
+pub other_names : OtherNamesLaw
 other_names rename names edges p h =
     part_count-labels (map rename names) (map (renamed rename) edges) (AreAmong-renamed rename names edges p)
     ∙ label_count-renamed rename names edges h p
@@ -124,8 +122,8 @@ AreAmong-append names others es fs p q =
     (EndsAre-weaker (is_member ◌==◌ names) (is_member ◌==◌ (names ++ others)) (λ x m. is_member-append names others x ∙ or_left (is_member ◌==◌ names x) (is_member ◌==◌ others x) m) es p)
     (EndsAre-weaker (is_member ◌==◌ others) (is_member ◌==◌ (names ++ others)) (λ x m. is_member-append names others x ∙ or_right (is_member ◌==◌ names x) (is_member ◌==◌ others x) m) fs q)
 
-pub disjoint_union : DisjointUnionLaw
-disjoint_union names others es fs p q apart =
+pub disjoint_graphs : DisjointGraphsLaw
+disjoint_graphs names others es fs p q apart =
     let whole = part_count-labels (names ++ others) (es ++ fs) (AreAmong-append names others es fs p q) in
     let first = part_count-labels names es p in
     let second = part_count-labels others fs q in
@@ -134,10 +132,10 @@ disjoint_union names others es fs p q apart =
     omega (arith, whole, first, second, through, same)
 
 -- ---- representatives and least names
-pub as_many_representatives : RepresentativesLaw
+pub as_many_representatives : AsManyRepresentativesLaw
 as_many_representatives names chosen edges p r = length-AreRepresentatives edges names chosen r ∙ sym (part_count-labels names edges p)
 
-pub least_names_tell : LeastNamesLaw
+pub least_names_tell : LeastNamesTellLaw
 least_names_tell names edges x y p m n = least_name-Joined names edges p x y m n
 
 pub count_by_all : (f g : ℕ → Bool) (xs : List ℕ) → ((x : ℕ) → is_member ◌==◌ xs x ≡ true → f x ≡ g x) → count_by f xs ≡ count_by g xs

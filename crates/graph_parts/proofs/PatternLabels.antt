@@ -1,7 +1,5 @@
 -- Patterns and closed parts, by labels.
---
--- Others cite: pattern-labels, closed_parts-labels, label_pattern-among (a pattern has open names only).
-use Rattle.std.proofs.Common.{◌≡◌, ℕ, suc, ◌-◌, Bool, true, false, cond, ◌==◌, List, [], ◌∷◌, refl, sym, ap, ◌∙◌, arith}
+use Rattle.std.proofs.Common.{◌≡◌, ℕ, suc, ◌-◌, true, false, cond, ◌==◌, List, [], ◌∷◌, refl, sym, ap, ◌∙◌, arith}
 use Rattle.std.specs.List.{AllPass}
 use Rattle.std.specs.Set.{is_member, distinct_count}
 use Rattle.std.proofs.lemmas.Bool.{eq-eqb, eqb-true}
@@ -17,9 +15,7 @@ use Rattle.graph_parts.proofs.Renaming.{map_agree_on}
 use Rattle.graph_parts.proofs.Rounds.{part-Joined}
 use Rattle.graph_parts.proofs.Through.{first_like_label, first_like_same}
 use Rattle.graph_parts.proofs.Walks.{Joined-from_labels, labels-from_Joined}
-
-same_bool : (b c : Bool) → (b ≡ true → c ≡ true) → (c ≡ true → b ≡ true) → b ≡ c
-same_bool b c h k = grind (arith, h, k)
+use Rattle.list_lemmas.proofs.Bools.{same_bool}
 
 first_like_member : (l : ℕ → ℕ) (names ys : List ℕ) (x : ℕ) → AllPass (is_member ◌==◌ names) ys → is_member ◌==◌ names x ≡ true → is_member ◌==◌ names (first_like l ys x) ≡ true
 first_like_member l names [] x a m = m

@@ -1,8 +1,5 @@
 -- Names do not matter: edges with other names give labels with other names, for any renaming, by induction on the edges;
 -- so counts stay where the renaming is one to one.
---
--- Others cite: label_after-map, label_count-map, label_count-renamed, label_pattern-map, map_map, zip_map, map_agree_on,
--- first_like-agree.
 use Rattle.std.proofs.Common.{◌≡◌, ℕ, Bool, true, false, cond, ◌==◌, List, [], ◌∷◌, map, zip, refl, sym, ap, ◌∙◌, arith}
 use Rattle.std.specs.List.{AllPass}
 use Rattle.std.specs.Set.{is_member, distinct_count}

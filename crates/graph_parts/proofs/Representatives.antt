@@ -1,7 +1,5 @@
 -- There are as many labels as there are representatives, whichever are chosen, and some can be chosen.
---
--- Others cite: label_count-representatives (some exist) and length-AreRepresentatives (all are as many).
-use Rattle.std.proofs.Common.{Bool, ◌≢◌, ◌≡◌, ℕ, zero, suc, ◌+◌, true, false, cond, ◌==◌, List, [], ◌∷◌, map, length, get_or, refl, sym, ap, ◌∙◌, arith, ⊎_elim, All, Any, AllPairs, Contains}
+use Rattle.std.proofs.Common.{◌≢◌, ◌≡◌, ℕ, zero, suc, ◌+◌, true, false, cond, ◌==◌, List, [], ◌∷◌, map, length, get_or, refl, sym, ap, ◌∙◌, arith, ⊎_elim, All, Any, AllPairs, Contains}
 use Rattle.std.specs.Set.{is_member}
 use Rattle.std.proofs.lemmas.Bool.{eq-eqb, eqb-true, or_cases}
 use Rattle.std.proofs.lemmas.List.{length-map, get_or-map}
@@ -11,9 +9,11 @@ use Rattle.graph_parts.specs.Labels.{label_of, label_count}
 use Rattle.graph_parts.specs.Representatives.{AreRepresentatives}
 use Rattle.std.proofs.lemmas.Bool.Decides.{Decides-eqb}
 use Rattle.std.proofs.lemmas.Cmp.{nat_eq_equiv}
-use Rattle.std.proofs.lemmas.Map.Made.{IsDistinct-from_AllPairs, is_member-Decides, length-from_keys}
+use Rattle.std.proofs.lemmas.Map.Made.{IsDistinct-from_AllPairs, length-from_keys}
 use Rattle.graph_parts.proofs.Counting.{distinct_count-cons, is_member-map}
 use Rattle.graph_parts.proofs.Walks.{Joined-from_labels, labels-from_Joined}
+use Rattle.list_lemmas.proofs.Bools.{same_bool}
+use Rattle.list_lemmas.proofs.Members.{member_of}
 
 -- the last of the names with each label
 abbrev pub representatives : (ℕ → ℕ) → List ℕ → List ℕ
@@ -96,12 +96,6 @@ preimage : (l : ℕ → ℕ) (n : ℕ) (xs : List ℕ) → is_member ◌==◌ (m
 preimage l n [] m = absurd (grind (arith, m))
 preimage l n (x ∷ xs) m =
     ⊎_elim (λ e. any_here (λ y. n ≡ l y) x xs (eqb-true n (l x) e)) (λ k. any_later (λ y. n ≡ l y) x xs (preimage l n xs k)) (or_cases (n == l x) _ m)
-
-member_of : (xs : List ℕ) (x : ℕ) → Contains xs x → is_member ◌==◌ xs x ≡ true
-member_of xs x c = (is_member-Decides Decides-eqb xs x).1 c
-
-same_bool : (b c : Bool) → (b ≡ true → c ≡ true) → (c ≡ true → b ≡ true) → b ≡ c
-same_bool b c h k = grind (arith, h, k)
 
 pub length-AreRepresentatives : (edges : List (ℕ × ℕ)) (names chosen : List ℕ) → AreRepresentatives edges names chosen → length chosen ≡ label_count (label_of edges) names
 length-AreRepresentatives edges names chosen r =

@@ -1,7 +1,5 @@
 -- The part of a name is what walks join with it: as many rounds as there are names reach all of it. Each round reaches one
 -- name more, or no round does from there on, since then both ends of each edge are reached or neither is.
---
--- Others cite: part-Joined, and part-names (a part has only names).
 use Rattle.std.proofs.Common.{◌≡◌, ℕ, zero, suc, ◌+◌, ◌≤◌, Bool, true, false, cond, ◌==◌, ◌||◌, ◌&&◌, List, [], ◌∷◌, length, get_or, Contains, All, count_by, refl, sym, ap, ◌∙◌, arith, inl, inr, ⊎_elim, ◌⊎◌, ◌↔◌, subst}
 use Rattle.std.proofs.lemmas.Bool.{cases_Bool, eqb-true, eq-eqb, or_left, or_cases, and_parts}
 use Rattle.std.proofs.lemmas.Bool.Decides.{nat_tests}

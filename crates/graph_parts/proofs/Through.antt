@@ -3,8 +3,6 @@
 -- adds as many labels to its names as to its open ones; and edges of the pattern join what the edges of the graph join.
 --
 --     is_outer names open_names x     x is open, or no name of the first graph
---
--- Others cite: label_count-through, Agree-pattern, inside-from_Joined.
 use Rattle.std.proofs.Common.{◌≡◌, ℕ, zero, suc, ◌+◌, Bool, true, false, cond, not, ◌||◌, ◌==◌, List, [], ◌∷◌, ◌++◌, map, zip, refl, sym, ap, ◌∙◌, arith, All, Contains, ◌⊎◌, inl, inr, ⊎_elim}
 use Rattle.std.specs.List.{AllPass}
 use Rattle.std.specs.Set.{is_member}

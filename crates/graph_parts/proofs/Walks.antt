@@ -1,6 +1,4 @@
 -- Two names have one label exactly where a walk joins them. By induction on the edges, for any labels to begin with.
---
--- Others cite: Joined-labels, and its halves labels-from_Joined and Joined-from_labels.
 use Rattle.std.proofs.Common.{◌≡◌, ℕ, zero, suc, ◌==◌, if◌then◌else◌, List, [], ◌∷◌, Contains, refl, sym, ap, ◌∙◌, arith, inl, inr, ⊎_elim, ◌⊎◌, ◌↔◌, subst}
 use Rattle.std.proofs.lemmas.Bool.{cases_Bool}
 use Rattle.std.proofs.lemmas.Bool.Decides.{nat_tests}

@@ -1,17 +1,16 @@
 -- The laws of parts. They carry everything above that counts loops, faces, pieces or components.
 --
---     InPart names edges x y             y is in the part of x
---     IsEquivalence names edges          of the names, being in one part is an equivalence
---     JoinAlike inside es fs             two lists of edges join the same of the names inside
---     IsSeam names others inner          two graphs share only the inner names, and the first has each of these
---     IsAmongEdges es fs                 each edge of the one list stands in the other, this way round or the other
+--     InPart names edges x y              y is in the part of x
+--     InPartIsEquivalence names edges     of the names, being in one part is an equivalence
+--     JoinAlike inside es fs              two lists of edges join the same of the names inside
+--     IsAmongEdges es fs                  each edge of the one list stands in the other, this way round or the other
 use Rattle.std.specs.Prelude.{◌≡◌, ◌⊎◌, ℕ, ◌+◌, ◌==◌, ◌↔◌, true, false, List, [], ◌∷◌, ◌++◌, map, length}
 use Rattle.std.specs.List.{AllPass, Contains, count_by, zip}
 use Rattle.std.specs.Set.{is_member, unique_keys}
 use Rattle.graph_parts.specs.Ends.{AreAmong}
 use Rattle.graph_parts.specs.LeastNames.{least_name}
 use Rattle.graph_parts.specs.Parts.{part, part_count}
-use Rattle.graph_parts.specs.Patterns.{pattern, closed_parts}
+use Rattle.graph_parts.specs.Patterns.{pattern, closed_parts, MeetOnlyIn}
 use Rattle.graph_parts.specs.Renaming.{renamed, IsOneToOne}
 use Rattle.graph_parts.specs.Representatives.{AreRepresentatives}
 use Rattle.graph_parts.specs.Walks.{Joined}
@@ -21,19 +20,19 @@ abbrev pub InPart : List ℕ → List (ℕ × ℕ) → ℕ → ℕ → Type 0
 InPart names edges x y = is_member ◌==◌ (part names edges x) y ≡ true
 
 -- The rounds reach exactly what walks join.
-abbrev pub RoundsLaw : Type 0
-RoundsLaw =
+abbrev pub PartsByWalksLaw : Type 0
+PartsByWalksLaw =
     (names : List ℕ) (edges : List (ℕ × ℕ)) (x y : ℕ) → AreAmong names edges → is_member ◌==◌ names x ≡ true →
     InPart names edges x y ↔ Joined edges x y
 
 -- Of the names, being in one part is an equivalence.
-pub record IsEquivalence (names : List ℕ) (edges : List (ℕ × ℕ)) : Type 0 where
+pub record InPartIsEquivalence (names : List ℕ) (edges : List (ℕ × ℕ)) : Type 0 where
   pub itself : (x : ℕ) → is_member ◌==◌ names x ≡ true → InPart names edges x x
   pub back : (x y : ℕ) → is_member ◌==◌ names x ≡ true → InPart names edges x y → InPart names edges y x
   pub on : (x y z : ℕ) → is_member ◌==◌ names x ≡ true → InPart names edges x y → InPart names edges y z → InPart names edges x z
 
-abbrev pub EquivalenceLaw : Type 0
-EquivalenceLaw = (names : List ℕ) (edges : List (ℕ × ℕ)) → AreAmong names edges → IsEquivalence names edges
+abbrev pub PartEquivalenceLaw : Type 0
+PartEquivalenceLaw = (names : List ℕ) (edges : List (ℕ × ℕ)) → AreAmong names edges → InPartIsEquivalence names edges
 
 -- A graph with no name has no part.
 abbrev pub NoNamesLaw : Type 0
@@ -80,26 +79,26 @@ SameNamesLaw =
     part_count names edges ≡ part_count others edges
 
 -- Other names, one to one, keep the number of parts.
-abbrev pub RenamingLaw : Type 0
-RenamingLaw =
+abbrev pub OtherNamesLaw : Type 0
+OtherNamesLaw =
     (rename : ℕ → ℕ) (names : List ℕ) (edges : List (ℕ × ℕ)) → AreAmong names edges → IsOneToOne rename names →
     part_count (map rename names) (map (renamed rename) edges) ≡ part_count names edges
 
 -- Two graphs with no name in common have together as many parts as both.
-abbrev pub DisjointUnionLaw : Type 0
-DisjointUnionLaw =
+abbrev pub DisjointGraphsLaw : Type 0
+DisjointGraphsLaw =
     (names others : List ℕ) (es fs : List (ℕ × ℕ)) → AreAmong names es → AreAmong others fs →
     ((x : ℕ) → is_member ◌==◌ names x ≡ true → is_member ◌==◌ others x ≡ false) →
     part_count (names ++ others) (es ++ fs) ≡ part_count names es + part_count others fs
 
 -- There are as many parts as representatives, whichever are chosen.
-abbrev pub RepresentativesLaw : Type 0
-RepresentativesLaw =
+abbrev pub AsManyRepresentativesLaw : Type 0
+AsManyRepresentativesLaw =
     (names chosen : List ℕ) (edges : List (ℕ × ℕ)) → AreAmong names edges → AreRepresentatives edges names chosen → length chosen ≡ part_count names edges
 
 -- Two names are joined exactly where the least names of their parts are one.
-abbrev pub LeastNamesLaw : Type 0
-LeastNamesLaw =
+abbrev pub LeastNamesTellLaw : Type 0
+LeastNamesTellLaw =
     (names : List ℕ) (edges : List (ℕ × ℕ)) (x y : ℕ) → AreAmong names edges → is_member ◌==◌ names x ≡ true → is_member ◌==◌ names y ≡ true →
     (least_name names edges x ≡ least_name names edges y) ↔ Joined edges x y
 
@@ -109,23 +108,18 @@ CountByLeastLaw =
     (names : List ℕ) (edges : List (ℕ × ℕ)) → AreAmong names edges →
     part_count names edges ≡ count_by (λ x. least_name names edges x == x) (unique_keys ◌==◌ names)
 
--- Two graphs share only inner open names: the second graph's names meet the first's in inner ones alone.
-pub record IsSeam (names others inner : List ℕ) : Type 0 where
-  pub has_open : AllPass (is_member ◌==◌ names) inner
-  pub meets : (x : ℕ) → is_member ◌==◌ others x ≡ true → is_member ◌==◌ names x ≡ true → is_member ◌==◌ inner x ≡ true
-
 -- Gluing: of two graphs that share only inner open names, the pattern of both together follows from the first's pattern
 -- and the second's edges: the edge from each inner name to its fellow stands in for the first graph.
 abbrev pub PatternGluingLaw : Type 0
 PatternGluingLaw =
-    (names others inner outer : List ℕ) (es fs : List (ℕ × ℕ)) → AreAmong names es → AreAmong others fs → IsSeam names others inner →
+    (names others inner outer : List ℕ) (es fs : List (ℕ × ℕ)) → AreAmong names es → AreAmong others fs → MeetOnlyIn names others inner →
     AllPass (is_member ◌==◌ (others ++ inner)) outer →
     pattern (names ++ others) (es ++ fs) outer ≡ pattern (others ++ inner) (zip inner (pattern names es inner) ++ fs) outer
 
 -- And the closed parts of both are those of the first and those that then close.
 abbrev pub ClosedGluingLaw : Type 0
 ClosedGluingLaw =
-    (names others inner outer : List ℕ) (es fs : List (ℕ × ℕ)) → AreAmong names es → AreAmong others fs → IsSeam names others inner →
+    (names others inner outer : List ℕ) (es fs : List (ℕ × ℕ)) → AreAmong names es → AreAmong others fs → MeetOnlyIn names others inner →
     AllPass (is_member ◌==◌ (others ++ inner)) outer →
     closed_parts (names ++ others) (es ++ fs) outer
     ≡ closed_parts names es inner + closed_parts (others ++ inner) (zip inner (pattern names es inner) ++ fs) outer

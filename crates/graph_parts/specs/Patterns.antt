@@ -5,9 +5,11 @@
 --     pattern names edges open_names          the first fellow of each open name; of the open names 1 2 3 with the
 --                                             edge (3,1), it is 1,2,1
 --     closed_parts names edges open_names     the parts without an open name: all less those that an open name lies in
+--     MeetOnlyIn names others open_names      two graphs meet in the open names alone, and the first has each of these
 --
 -- and, by labels, for the proofs: first_like, label_pattern, label_closed.
-use Rattle.std.specs.Prelude.{ℕ, ◌-◌, ◌==◌, if◌then◌else◌, List, [], ◌∷◌, map}
+use Rattle.std.specs.Prelude.{◌≡◌, ℕ, ◌-◌, ◌==◌, if◌then◌else◌, true, List, [], ◌∷◌, map}
+use Rattle.std.specs.List.{AllPass}
 use Rattle.std.specs.Set.{is_member, distinct_count}
 use Rattle.graph_parts.specs.Labels.{label_of, label_count}
 use Rattle.graph_parts.specs.Parts.{part, part_count}
@@ -28,6 +30,11 @@ pattern names edges open_names = map (first_open names edges open_names) open_na
 -- How many parts have no open name: all less those that an open name lies in.
 abbrev pub closed_parts : List ℕ → List (ℕ × ℕ) → List ℕ → ℕ
 closed_parts names edges open_names = part_count names edges - distinct_count ◌==◌ (pattern names edges open_names)
+
+-- The second graph's names meet the first's in open ones alone.
+pub record MeetOnlyIn (names others open_names : List ℕ) : Type 0 where
+  pub has_open : AllPass (is_member ◌==◌ names) open_names
+  pub meets : (x : ℕ) → is_member ◌==◌ others x ≡ true → is_member ◌==◌ names x ≡ true → is_member ◌==◌ open_names x ≡ true
 
 -- The first of the names that has x's label, or x.
 abbrev pub first_like : (ℕ → ℕ) → List ℕ → ℕ → ℕ

@@ -1,14 +1,14 @@
 -- Other names for the same graph.
 --
---     turned a b x                   b in the place of a: b where x is a, else x
+--     replaced a b x                 b in the place of a: b where x is a, else x
 --     renamed rename edge            the edge between the new names
 --     IsOneToOne rename names        the new names of different names are different
 use Rattle.std.specs.Prelude.{◌≡◌, ℕ, ◌==◌, if◌then◌else◌, true, List}
 use Rattle.std.specs.Set.{is_member}
 
 -- b in the place of a
-abbrev pub turned : ℕ → ℕ → ℕ → ℕ
-turned a b x = if x == a then b else x
+abbrev pub replaced : ℕ → ℕ → ℕ → ℕ
+replaced a b x = if x == a then b else x
 
 -- The edge between the new names.
 abbrev pub renamed : (ℕ → ℕ) → ℕ × ℕ → ℕ × ℕ

@@ -1,15 +1,15 @@
 //! The laws of parts: each function has an empty body, and its contract is the law. They are stated in `specs/Laws.antt`.
 
-ghost use Rattle.graph_parts.specs.Laws.{RoundsLaw, EquivalenceLaw, NoNamesLaw, JoinedEdgeLaw, ApartEdgeLaw, ContractionLaw, SameEdgesLaw, SameNamesLaw, RenamingLaw, DisjointUnionLaw, RepresentativesLaw, LeastNamesLaw, CountByLeastLaw, PatternGluingLaw, ClosedGluingLaw};
+ghost use Rattle.graph_parts.specs.Laws.{PartsByWalksLaw, PartEquivalenceLaw, NoNamesLaw, JoinedEdgeLaw, ApartEdgeLaw, ContractionLaw, SameEdgesLaw, SameNamesLaw, OtherNamesLaw, DisjointGraphsLaw, AsManyRepresentativesLaw, LeastNamesTellLaw, CountByLeastLaw, PatternGluingLaw, ClosedGluingLaw};
 
 /// The part of a name is what walks along the edges join with it.
 pub fn parts_by_walks()
-    ensures { RoundsLaw }
+    ensures { PartsByWalksLaw }
 {}
 
-/// Being in one part is an equivalence of the names.
-pub fn equivalence()
-    ensures { EquivalenceLaw }
+/// Being in one part is an part_equivalence of the names.
+pub fn part_equivalence()
+    ensures { PartEquivalenceLaw }
 {}
 
 /// A graph with no name has no part.
@@ -44,22 +44,22 @@ pub fn same_names()
 
 /// Other names, one to one, keep the number of parts.
 pub fn other_names()
-    ensures { RenamingLaw }
+    ensures { OtherNamesLaw }
 {}
 
 /// Two graphs with no name in common have together as many parts as both.
-pub fn disjoint_union()
-    ensures { DisjointUnionLaw }
+pub fn disjoint_graphs()
+    ensures { DisjointGraphsLaw }
 {}
 
 /// There are as many parts as representatives, whichever are chosen.
 pub fn as_many_representatives()
-    ensures { RepresentativesLaw }
+    ensures { AsManyRepresentativesLaw }
 {}
 
 /// Two names are joined exactly where the least names of their parts are one.
 pub fn least_names_tell()
-    ensures { LeastNamesLaw }
+    ensures { LeastNamesTellLaw }
 {}
 
 /// There are as many parts as names that are the least of their part.

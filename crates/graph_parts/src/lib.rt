@@ -8,6 +8,6 @@ mod laws;
 
 pub use laws::{
     apart_edge, as_many_representatives, closed_gluing, contraction, count_by_least,
-    disjoint_union, equivalence, joined_edge, least_names_tell, no_names, other_names,
+    disjoint_graphs, joined_edge, least_names_tell, no_names, other_names, part_equivalence,
     parts_by_walks, pattern_gluing, same_edges, same_names,
 };

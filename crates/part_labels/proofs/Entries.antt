@@ -1,6 +1,4 @@
 -- What the entries of `least_names` tell: which names are joined, and how many parts there are. For callers.
---
--- Others cite: entries-at, entries-Joined, part_count-entries.
 use Rattle.std.proofs.Common.{◌≡◌, ℕ, ◌<◌, ◌==◌, List, map, slice_index, get_or, count_by, sym, ap, ◌∙◌, ◌↔◌, arith, All}
 use Rattle.std.specs.List.{range_with_len}
 use Rattle.std.proofs.lemmas.List.FromFn.{get_or-map-range_with_len}

@@ -1,6 +1,4 @@
 -- One change of a forest: what it stands for after one parent is replaced.
---
--- Others cite: IsDescending-set, StandsFor-halve (a name hung two steps higher), StandsFor-join (one root hung on another).
 use Rattle.std.proofs.Common.{◌≡◌, ◌≢◌, ℕ, ◌<◌, ◌≤◌, ◌==◌, List, length, get_or, set, min, max, get_or-set_other, sym, ap, ◌∙◌, arith, ⊎_elim, ◌⊎◌, inl, inr, length-set}
 use Rattle.std.proofs.lemmas.Grind.{get_or-set_at}
 use Rattle.std.proofs.lemmas.Bool.{cases_Bool, cases_order, eqb-true, eq-eqb}

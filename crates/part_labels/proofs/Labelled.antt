@@ -1,9 +1,8 @@
 -- From labels at each place of a list to the list of least names.
-use Rattle.std.proofs.Common.{◌≡◌, ℕ, ◌+◌, ◌<◌, List, [], ◌∷◌, ◌++◌, map, length, get_or, take, drop, slice_index, sym, ap, ◌∙◌, arith, All, take_all, drop_of_length-le, append-nil}
+use Rattle.std.proofs.Common.{◌≡◌, ℕ, ◌+◌, ◌<◌, List, ◌++◌, map, length, get_or, take, drop, slice_index, sym, ap, ◌∙◌, arith, All, take_all, drop_of_length-le, append-nil}
 use Rattle.std.specs.List.{range_with_len}
 use Rattle.std.proofs.lemmas.Grind.{same_number_lists}
-use Rattle.std.proofs.lemmas.List.FromFn.{length-range_with_len, get_or-range_with_len, length-map-range_with_len, get_or-map-range_with_len, map-range_with_len_more}
-use Rattle.std.proofs.lemmas.List.{map-id}
+use Rattle.std.proofs.lemmas.List.FromFn.{length-range_with_len, get_or-range_with_len, length-map-range_with_len, get_or-map-range_with_len}
 use Rattle.graph_parts.specs.LeastNames.{least_name, least_label}
 use Rattle.graph_parts.proofs.LeastLabels.{least_name-label}
 use Rattle.graph_parts.proofs.Numbered.{is_member-numbered, AreAmong-numbered}
@@ -16,9 +15,6 @@ numbered_at n xs e i l =
 
 pub among_length : (n m : ℕ) (edges : List (ℕ × ℕ)) → n ≡ m → All (λ edge. (edge.0 < n) × (edge.1 < n)) edges → All (λ edge. (edge.0 < m) × (edge.1 < m)) edges
 among_length n m edges e h k d l = let p = h k d l in (omega (arith, e, p.0), omega (arith, e, p.1))
-
-pub numbered_push : (n : ℕ) → range_with_len 0 (n + 1) ≡ range_with_len 0 n ++ n ∷ []
-numbered_push n = sym (map-id (range_with_len 0 (n + 1))) ∙ map-range_with_len_more (λ x. x) 0 n n (omega arith) ∙ ap (λ xs. xs ++ n ∷ []) (map-id (range_with_len 0 n))
 
 -- LABELS AT EACH PLACE ARE THE LEAST NAMES
 pub labelled : (n len : ℕ) (edges : List (ℕ × ℕ)) (new items : List ℕ) → All (λ edge. (edge.0 < n) × (edge.1 < n)) edges →

@@ -1,6 +1,4 @@
 -- Labels of names by their places: one more edge relabels, and the number of labels at the end is the number of parts.
---
--- Others cite: started, one_more, counted, distinct_step, any_turned.
 use Rattle.std.proofs.Common.{◌≡◌, ℕ, suc, ◌+◌, ◌<◌, ◌≤◌, cond, ◌==◌, List, [], ◌∷◌, map, map-id, length, get_or, slice_index, take, drop, drop-cons, add-one, refl, sym, ap, ◌∙◌, arith}
 use Rattle.std.specs.List.{list_any}
 use Rattle.std.specs.Set.{is_member, distinct_count}
@@ -12,8 +10,8 @@ use Rattle.graph_parts.specs.Ends.{AreAmong}
 use Rattle.graph_parts.specs.Labels.{relabel, label_of, label_count}
 use Rattle.graph_parts.specs.Parts.{part_count}
 use Rattle.graph_parts.proofs.Ends.{is_member-get_or}
-use Rattle.graph_parts.specs.Renaming.{turned}
-use Rattle.graph_parts.proofs.Counting.{map_turned, distinct_count-cons}
+use Rattle.graph_parts.specs.Renaming.{replaced}
+use Rattle.graph_parts.proofs.Counting.{map_replaced, distinct_count-cons}
 use Rattle.graph_parts.proofs.LeastNames.{part_count-labels}
 use Rattle.plain_sum.specs.Places.{named, AreWithin}
 
@@ -46,15 +44,15 @@ module _ (names : List ℕ) (edges : List (ℕ × ℕ)) (i : ℕ) (within : i < 
       ∙ fold_push relabel (λ x. x) (named names (take i edges)) (slice_index names edge.0, slice_index names edge.1)
 
   -- ONE MORE EDGE
-  pub one_more : map (turned (get_or labels edge.0 0) (get_or labels edge.1 0)) labels ≡ map (label_of (named names (take (i + 1) edges))) names
+  pub one_more : map (replaced (get_or labels edge.0 0) (get_or labels edge.1 0)) labels ≡ map (label_of (named names (take (i + 1) edges))) names
   one_more =
       let bounds = ends i (0, 0) within in
       let from : ℕ = slice_index names edge.0 in
       let to : ℕ = slice_index names edge.1 in
-      ap (λ k. map (turned k (get_or labels edge.1 0)) labels) (label_at edge.0 bounds.0)
-      ∙ ap (λ k. map (turned (label from) k) labels) (label_at edge.1 bounds.1)
-      ∙ ap (λ ls. map (turned (label from) (label to)) ls) labelled
-      ∙ sym (map_turned label (label from) (label to) names)
+      ap (λ k. map (replaced k (get_or labels edge.1 0)) labels) (label_at edge.0 bounds.0)
+      ∙ ap (λ k. map (replaced (label from) k) labels) (label_at edge.1 bounds.1)
+      ∙ ap (λ ls. map (replaced (label from) (label to)) ls) labelled
+      ∙ sym (map_replaced label (label from) (label to) names)
       ∙ ap (λ k. map k names) (sym longer)
 
 -- the names that stand at places are among the names

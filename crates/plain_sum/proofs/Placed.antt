@@ -1,6 +1,4 @@
 -- The places of a node's ends, and the edges of its terms there.
---
--- Others cite: edges_more (one more pair), named-behind (the edges behind, by names), within-behind (they are within).
 use Rattle.std.proofs.Common.{◌≡◌, ℕ, zero, suc, ◌+◌, ◌<◌, ◌≤◌, List, [], ◌∷◌, ◌++◌, map, length, get_or, slice_index, take, drop, zip, add-one, refl, sym, ap, ◌∙◌, arith, All}
 use Rattle.std.specs.List.{range_with_len}
 use Rattle.std.proofs.lemmas.List.{get_or-drop, get_or_append_left}

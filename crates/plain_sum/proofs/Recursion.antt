@@ -1,6 +1,4 @@
 -- The recursion over the nodes: what is left behind the first node, what its terms add, and that the whole is the state sum.
---
--- Others cite: is_next (a turn of the loop), sum_step, sum_end, sum_all, whole.
 use Rattle.std.proofs.Common.{◌≡◌, ℕ, suc, ◌+◌, ◌-◌, ◌*◌, ◌%◌, ◌^◌, ◌<◌, ◌≤◌, List, [], ◌∷◌, ◌++◌, append-nil, append_assoc, length, get_or, slice_index, take, take_all, drop, pos, ◌+ℤ◌, ◌*ℤ◌, sum_by, sym, ap, ◌∙◌, subst, arith, All, length-append, length-drop}
 use Rattle.std.proofs.lemmas.Grind.{get_or_default_zero}
 use Rattle.std.proofs.Math.Nat.{mod-add-mod, add-mod-mod}
@@ -14,12 +12,13 @@ use Rattle.ring_identities.proofs.PowerLemmas.{power-pos}
 use Rattle.graph_parts.specs.Parts.{part_count}
 use Rattle.state_sums.specs.Networks.{Node, Term, names_of, IsPairing, WeightsBelow}
 use Rattle.state_sums.specs.StateSums.{term_edges, value}
-use Rattle.state_sums.proofs.Sums.{total, sum_by_same}
+use Rattle.state_sums.proofs.Sums.{total}
 use Rattle.state_sums.proofs.StateSums.{state_sum-nested}
 use Rattle.arc_pairing.specs.Nodes.{IsShortNode}
 use Rattle.plain_sum.specs.Places.{named, AreWithin, placed}
 use Rattle.plain_sum.specs.Sums.{sum_behind, term_behind}
 use Rattle.plain_sum.proofs.Placed.{drop_one, named-placed, within-placed}
+use Rattle.list_lemmas.proofs.Sums.{sum_by_same}
 
 pub first_and_rest : (nodes : List Node) (node : Node) → 0 < length nodes → node ≡ get_or nodes 0 node → nodes ≡ node ∷ take (length nodes - 1) (drop 1 nodes)
 first_and_rest [] node h e = absurd (omega arith)

@@ -2,7 +2,7 @@
 
 ghost use Rattle.std.specs.Prelude.{◌≡◌, ◌≤◌, ◌==◌, IfOk, length, map};
 ghost use Rattle.std.specs.Set.{distinct_count};
-ghost use Rattle.graph_parts.specs.Renaming.{turned};
+ghost use Rattle.graph_parts.specs.Renaming.{replaced};
 ghost use Rattle.graph_parts.specs.Parts.{part_count};
 ghost use Rattle.plain_sum.specs.Places.{named, AreWithin};
 
@@ -10,7 +10,7 @@ use std::alloc::{AllocError, Global};
 
 /// Writes `to` over each `from`.
 fn turn(labels: &mut [u32], from: u32, to: u32)
-    ensures { labels.new ≡ map (turned from to) labels.old }
+    ensures { labels.new ≡ map (replaced from to) labels.old }
 {
     for label in labels.iter_mut() {
         if *label == from {

@@ -12,7 +12,7 @@ use Rattle.std.proofs.lemmas.List.Elements.{All-nil, All-cons}
 use Rattle.std.proofs.lemmas.List.Sums.{sum_by-cons, sum_by-append}
 use Rattle.ring_identities.specs.Powers.{power}
 use Rattle.ring_identities.proofs.Congruences.{residue_below}
-use Rattle.state_sums.specs.Networks.{Node, Term, names_of, times_in, WeightsBelow}
+use Rattle.state_sums.specs.Networks.{Node, Term, names_of, WeightsBelow}
 use Rattle.root_quantum.specs.Parameters.{Parameters}
 use Rattle.pd_reader.specs.declared.item.Item.{Item}
 use Rattle.pd_reader.specs.declared.item.Item.TheVariants.{X, Loop}
@@ -22,6 +22,7 @@ use Rattle.arc_pairing.specs.Counts.{StandsTwice, IsLeastMiscount}
 use Rattle.root_quantum.specs.QuantumNumbers.{inverse_root}
 use Rattle.skein_network.specs.Crossings.{crossing_node, joins_ab_cd, joins_ad_bc}
 use Rattle.skein_network.specs.Brackets.{strand_name, crossing_nodes, loop_count}
+use Rattle.list_lemmas.specs.Times.{times_in}
 
 crossing_nodes-append : (p : Parameters) (group : ℕ) (xs ys : List Item) →
     crossing_nodes p group (xs ++ ys) ≡ crossing_nodes p group xs ++ crossing_nodes p (group + length (crossing_nodes p group xs)) ys

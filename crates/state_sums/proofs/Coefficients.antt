@@ -1,6 +1,4 @@
 -- Sums over states that agree at each pattern agree for every worth of the patterns.
---
--- Others cite: grouped, and of this crate's words SameEverywhere-from_worth and worth-from_SameEverywhere.
 use Rattle.std.proofs.Common.{Bool, ◌++◌, map, get_or, ◌≡◌, ℕ, ◌+◌, ◌*◌, ◌^◌, ◌%◌, true, false, cond, List, [], ◌∷◌, mul_assoc, sum_by, refl, sym, ap, ◌∙◌, arith, All}
 use Rattle.std.specs.List.{list_any}
 use Rattle.std.proofs.lemmas.Bool.{or_left, or_right}
@@ -16,7 +14,7 @@ use Rattle.state_sums.specs.Networks.{Network, Term, names_of}
 use Rattle.state_sums.specs.StateSums.{states, state_edges, state_weight}
 use Rattle.state_sums.proofs.Congruent.{add_same_mod, mul_same_mod}
 use Rattle.state_sums.proofs.StateEdges.{sum_by_all}
-use Rattle.state_sums.proofs.Sums.{sum_by_same}
+use Rattle.list_lemmas.proofs.Sums.{sum_by_same}
 
 module _ {K : Type 0} (eq : K → K → Bool) (sound : (p q : K) → eq p q ≡ true → p ≡ q) (itself : (p : K) → eq p p ≡ true) where
   -- 1 at p, 0 elsewhere

@@ -1,7 +1,5 @@
 -- Equations between remainders, from a certificate: p and q differ by multiples of l - r and s - t, as one equation of
 -- natural numbers says.
---
--- Others cite: congruent_by, add_same_mod, mul_same_mod, pow_0, pow_1.
 use Rattle.std.proofs.Common.{◌≡◌, ℕ, zero, suc, ◌+◌, ◌*◌, ◌^◌, ◌%◌, refl, sym, ap, ◌∙◌, arith}
 use Rattle.std.proofs.Math.Nat.{pow-zero, pow-suc, add-mod, mod-zero, add-mul-mod_self_left}
 use Rattle.std.proofs.lemmas.Nat.{mul-mod_second}

@@ -1,22 +1,16 @@
 -- Where no name stands three times, the names that stand once in the nodes cut them off from the rest.
---
--- Others cite: IsCut-from_times.
-use Rattle.std.proofs.Common.{◌≡◌, ℕ, ◌≤◌, Bool, true, cond, ◌==◌, List, [], ◌∷◌, ◌++◌, ap, arith}
+use Rattle.std.proofs.Common.{◌≡◌, ℕ, ◌≤◌, Bool, true, cond, ◌==◌, List, ◌++◌, ap, arith}
 use Rattle.std.specs.Set.{is_member}
 use Rattle.std.proofs.lemmas.Bool.{eq-eqb, eqb-true}
-use Rattle.std.proofs.lemmas.Bool.Decides.{nat_tests}
 use Rattle.std.proofs.lemmas.Cmp.{nat_eq_equiv}
 use Rattle.std.proofs.lemmas.List.Elements.{All-filter}
-use Rattle.std.proofs.lemmas.List.Sums.{sum_by-cons, sum_by-append}
+use Rattle.std.proofs.lemmas.List.Sums.{sum_by-append}
 use Rattle.std.proofs.lemmas.Map.Made.{is_member-filter}
 use Rattle.graph_parts.proofs.Ends.{is_member-itself}
 use Rattle.state_sums.specs.LocalSums.{IsCut, open_of}
-use Rattle.state_sums.specs.Networks.{Node, names_of, times_in}
-
-pub times_of_member : (x : ℕ) (xs : List ℕ) → is_member ◌==◌ xs x ≡ true → 1 ≤ times_in xs x
-times_of_member x [] m = absurd (grind (arith, m))
-times_of_member x (y ∷ xs) m =
-    let ih = times_of_member x xs in let e = sum_by-cons (λ z. cond (x == z) 1 0) y xs in grind (arith, nat_tests, ih, e, m)
+use Rattle.state_sums.specs.Networks.{Node, names_of}
+use Rattle.list_lemmas.specs.Times.{times_in}
+use Rattle.list_lemmas.proofs.Times.{times_of_member}
 
 -- NO NAME THREE TIMES
 pub IsCut-from_times : (nodes rest : List Node) → ((x : ℕ) → times_in (names_of nodes ++ names_of rest) x ≤ 2) → IsCut nodes rest (open_of nodes)

@@ -1,20 +1,14 @@
 -- Two networks with no name in common: the sum over both is the product of the sums.
---
--- Others cite: state_sum-disjoint.
-use Rattle.std.proofs.Common.{◌≡◌, ℕ, ◌+◌, ◌*◌, ◌^◌, true, false, ◌==◌, List, ◌++◌, sym, ap, ◌∙◌, arith, mul_comm}
+use Rattle.std.proofs.Common.{◌≡◌, ℕ, ◌+◌, ◌*◌, ◌^◌, true, false, ◌==◌, List, ◌++◌, sym, ap, ◌∙◌, mul_comm}
 use Rattle.std.specs.Set.{is_member}
-use Rattle.std.proofs.Math.Pow.{pow-add}
 use Rattle.std.proofs.lemmas.List.Concat.{flat_map-append}
 use Rattle.graph_parts.specs.Parts.{part_count}
-use Rattle.graph_parts.proofs.PartLaws.{disjoint_union}
+use Rattle.graph_parts.proofs.PartLaws.{disjoint_graphs}
 use Rattle.state_sums.specs.Networks.{Node, names_of}
 use Rattle.state_sums.specs.StateSums.{state_sum}
 use Rattle.state_sums.proofs.StateEdges.{HavePlaces, total_same}
 use Rattle.state_sums.proofs.StateSums.{state_sum-nested}
-use Rattle.state_sums.proofs.Sums.{total, total-append, total-times}
-
-power_both : (d n c k f g : ℕ) → n ≡ c + k → d ^ (n + (f + g)) ≡ d ^ (c + f) * d ^ (k + g)
-power_both d n c k f g e = let t : n + (f + g) ≡ (c + f) + (k + g) = omega arith in ap (λ i. d ^ i) t ∙ pow-add d (c + f) (k + g)
+use Rattle.state_sums.proofs.Sums.{total, total-append, total-times, power_through}
 
 -- THE PRODUCT
 pub state_sum-disjoint : (delta : ℕ) (nodes others : List Node) (free more : ℕ) → HavePlaces nodes → HavePlaces others →
@@ -31,9 +25,9 @@ state_sum-disjoint delta nodes others free more p q apart =
     (λ es in_nodes.
     total_same others q (λ fs. whole (es ++ fs)) (λ fs. first es * second fs)
     (λ fs in_others.
-    power_both delta (part_count (names_of (nodes ++ others)) (es ++ fs)) (part_count (names_of nodes) es) (part_count (names_of others) fs) free more
+    power_through delta (part_count (names_of (nodes ++ others)) (es ++ fs)) (part_count (names_of nodes) es) (part_count (names_of others) fs) free more
     (ap (λ ns. part_count ns (es ++ fs)) (flat_map-append (λ node. node.ends) nodes others)
-    ∙ disjoint_union (names_of nodes) (names_of others) es fs in_nodes in_others apart))
+    ∙ disjoint_graphs (names_of nodes) (names_of others) es fs in_nodes in_others apart))
     ∙ total-times (first es) others second
     ∙ mul_comm (first es) (total others second))
     ∙ total-times (total others second) nodes first

@@ -3,8 +3,6 @@
 --
 --     glued_worth delta rest more inner outer worth found     what the rest comes to where a pattern's edges stand in for
 --                                                             the nodes, and outer names are left open
---
--- Others cite: pattern_sum-glue (by labels), pattern_sum-rest (by parts), kept_under_nodes.
 use Rattle.std.proofs.Common.{◌≡◌, ℕ, ◌+◌, ◌*◌, ◌^◌, ◌%◌, true, ◌==◌, List, ◌++◌, zip, sym, ap, ◌∙◌, arith, mul_assoc}
 use Rattle.std.specs.List.{AllPass}
 use Rattle.std.specs.Set.{is_member}

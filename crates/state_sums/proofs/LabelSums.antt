@@ -1,8 +1,6 @@
 -- A piece's sum over patterns as nested sums over labels.
 --
 --     label_weighed delta nodes free open_names worth es     what a state with these edges counts, by labels
---
--- Others cite: pattern_sum-labels.
 use Rattle.std.proofs.Common.{◌≡◌, ℕ, ◌+◌, ◌*◌, ◌^◌, ◌==◌, List, ap, ◌∙◌}
 use Rattle.std.specs.List.{AllPass}
 use Rattle.std.specs.Set.{is_member}

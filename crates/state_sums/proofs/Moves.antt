@@ -1,7 +1,5 @@
 -- Reidemeister's moves on crossings that are written out: sums over all states are computed, and what is left is an equation
 -- modulo m in a, b and delta.
---
--- Others cite: curl_move, bigon_move, triangle_move.
 use Rattle.std.proofs.Common.{◌≡◌, ℕ, ◌+◌, ◌*◌, ◌%◌, true, List, [], ◌∷◌, refl, sym, ap, ◌∙◌, arith}
 use Rattle.std.specs.List.{list_all}
 use Rattle.std.proofs.lemmas.List.Sums.{AllPass-from_list_all}

@@ -1,10 +1,8 @@
 -- The laws of state sums, of nodes that are such.
---
--- Others cite: each by the name of its function in src/laws.rt; those on sums before they are reduced stand in the files below.
 use Rattle.std.proofs.Common.{◌≡◌, ℕ, ◌+◌, ◌*◌, map, ◌%◌, [], ◌∷◌, refl, sym, ap, ◌∙◌, zero-add, arith}
 use Rattle.std.proofs.lemmas.Nat.{mul-mod}
 use Rattle.graph_parts.specs.Parts.{part_count}
-use Rattle.state_sums.specs.Laws.{NoNodesLaw, OrderLaw, RenamingLaw, DisjointUnionLaw, ArcLaw, CutLaw, GluingLaw, ReplacementLaw, SameEverywhereLaw, AddedNodesLaw, LocalRenamingLaw, AnywhereLaw, QuarterTurnLaw, CurlLaw, OtherCurlLaw, SecondMoveLaw, ThirdMoveLaw}
+use Rattle.state_sums.specs.Laws.{NoNodesLaw, AnyOrderLaw, AnyNamesLaw, DisjointNetworksLaw, ArcLaw, CutAtOpenNamesLaw, GluedPieceLaw, ReplacementLaw, SameEverywhereLaw, AddedNodesLaw, LocalRenamingLaw, AnywhereLaw, QuarterTurnLaw, CurlLaw, OtherCurlLaw, SecondMoveLaw, ThirdMoveLaw}
 use Rattle.state_sums.specs.StateSums.{state_sum, value}
 use Rattle.state_sums.proofs.Arcs.{state_sum-arc}
 use Rattle.state_sums.proofs.Cuts.{IsCut-from_times}
@@ -27,17 +25,17 @@ pub no_nodes : NoNodesLaw
 unfolding value part_count
 no_nodes m delta free = ap (λ n. n % m) (simp zero-add (omega arith))
 
-pub any_order : OrderLaw
+pub any_order : AnyOrderLaw
 unfolding value
 any_order m delta free nodes permuted p h = ap (λ n. n % m) (state_sum-permuted delta free nodes permuted (HavePlaces-from_nodes nodes p) h)
 
-pub any_names : RenamingLaw
+pub any_names : AnyNamesLaw
 unfolding value
 any_names m delta free new_name nodes p h = ap (λ n. n % m) (state_sum-rename delta new_name nodes free (HavePlaces-from_nodes nodes p) h)
 
-pub disjoint_union : DisjointUnionLaw
+pub disjoint_networks : DisjointNetworksLaw
 unfolding value
-disjoint_union m delta free more nodes others p q apart =
+disjoint_networks m delta free more nodes others p q apart =
     ap (λ n. n % m) (state_sum-disjoint delta nodes others free more (HavePlaces-from_nodes nodes p) (HavePlaces-from_nodes others q) apart)
     ∙ mul-mod (state_sum delta record { nodes = nodes; free_loops = free }) (state_sum delta record { nodes = others; free_loops = more }) m
 
@@ -45,11 +43,11 @@ pub arc_joins : ArcLaw
 unfolding value
 arc_joins m delta free x y rest p a b = ap (λ n. n % m) (state_sum-arc delta x y rest free (HavePlaces-from_nodes rest p) a b)
 
-pub cut_at_single_names : CutLaw
-cut_at_single_names nodes rest h = IsCut-from_times nodes rest h
+pub cut_at_open_names : CutAtOpenNamesLaw
+cut_at_open_names nodes rest h = IsCut-from_times nodes rest h
 
-pub gluing : GluingLaw
-gluing delta free more nodes rest inner outer worth p q cut left =
+pub glued_piece : GluedPieceLaw
+glued_piece delta free more nodes rest inner outer worth p q cut left =
     pattern_sum-rest delta nodes rest inner outer free more worth (HavePlaces-from_nodes nodes p) (HavePlaces-from_nodes rest q) cut left
 
 pub replacement : ReplacementLaw

@@ -1,7 +1,5 @@
 -- Names do not matter: nodes with other names have states with renamed edges, and their sums stay where the renaming is
 -- one to one.
---
--- Others cite: HavePlaces-rename, total-rename, names_of-rename, state_sum-rename, pattern_sum-rename, SameEverywhere-rename.
 use Rattle.std.proofs.Common.{◌≡◌, ℕ, ◌+◌, ◌*◌, ◌^◌, ◌<◌, ◌%◌, true, ◌==◌, List, [], ◌∷◌, ◌++◌, map, length, slice_index, zip, refl, sym, ap, ◌∙◌, All, subst}
 use Rattle.std.specs.List.{AllPass}
 use Rattle.std.specs.Set.{is_member}

@@ -1,7 +1,5 @@
 -- The order of a network's nodes does not matter: a run of nodes may be moved to the front, so two nodes may change places,
 -- and every order is reached so.
---
--- Others cite: total-exchange, label_sum-moved, state_sum-permuted.
 use Rattle.std.proofs.Common.{◌≡◌, ℕ, ◌+◌, ◌*◌, ◌^◌, ◌==◌, List, [], ◌∷◌, ◌++◌, zero, suc, ◌<◌, length, get_or, set, sum_by, Contains, refl, sym, ap, ◌∙◌, arith, mul-add, ◌⊎◌, inl, ⊎_elim, append_assoc}
 use Rattle.std.specs.Set.{is_member}
 use Rattle.std.proofs.lemmas.List.Concat.{flat_map-append}
@@ -19,7 +17,8 @@ use Rattle.state_sums.specs.Networks.{Node, names_of}
 use Rattle.state_sums.specs.StateSums.{state_sum, term_edges}
 use Rattle.state_sums.proofs.StateEdges.{HasPlaces, HavePlaces}
 use Rattle.state_sums.proofs.StateSums.{state_sum-labels}
-use Rattle.state_sums.proofs.Sums.{total, total-append, total-times, total_cong, sum_by_same}
+use Rattle.state_sums.proofs.Sums.{total, total-append, total-times, total_cong}
+use Rattle.list_lemmas.proofs.Sums.{sum_by_same}
 
 -- ---- one sum inside the other
 total-zero : (nodes : List Node) → total nodes (λ es. 0) ≡ 0

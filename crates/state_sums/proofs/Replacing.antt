@@ -2,10 +2,7 @@
 -- their open names may stand for one another.
 --
 --     rest_worth delta rest more open_names found     what the rest comes to where a pattern's edges stand in for the nodes
---
--- Others cite: state_sum-through, replacement.
-use Rattle.std.proofs.Common.{◌≡◌, ℕ, ◌+◌, ◌*◌, ◌^◌, ◌%◌, List, ◌++◌, zip, sym, ap, ◌∙◌, arith}
-use Rattle.std.proofs.Math.Pow.{pow-add}
+use Rattle.std.proofs.Common.{◌≡◌, ℕ, ◌+◌, ◌*◌, ◌^◌, ◌%◌, List, ◌++◌, zip, sym, ap, ◌∙◌}
 use Rattle.std.proofs.lemmas.List.Concat.{flat_map-append}
 use Rattle.std.proofs.lemmas.List.Elements.{All-append}
 use Rattle.graph_parts.specs.Ends.{AreAmong}
@@ -19,7 +16,7 @@ use Rattle.state_sums.proofs.Coefficients.{worth-from_SameEverywhere}
 use Rattle.state_sums.proofs.LabelSums.{label_weighed, pattern_sum-labels}
 use Rattle.state_sums.proofs.StateEdges.{HasPlaces, HavePlaces, total_same}
 use Rattle.state_sums.proofs.StateSums.{state_sum-labels}
-use Rattle.state_sums.proofs.Sums.{total, total-append, total-times}
+use Rattle.state_sums.proofs.Sums.{total, total-append, total-times, power_through}
 
 abbrev pub rest_worth : ℕ → List Node → ℕ → List ℕ → List ℕ → ℕ
 rest_worth delta rest more open_names found =
@@ -27,9 +24,6 @@ rest_worth delta rest more open_names found =
 
 pub HavePlaces-append : (nodes rest : List Node) → HavePlaces nodes → HavePlaces rest → HavePlaces (nodes ++ rest)
 HavePlaces-append nodes rest p q = All-append HasPlaces nodes rest p q
-
-power_through : (d n c k f g : ℕ) → n ≡ c + k → d ^ (n + (f + g)) ≡ d ^ (c + f) * d ^ (k + g)
-power_through d n c k f g e = let t : n + (f + g) ≡ (c + f) + (k + g) = omega arith in ap (λ i. d ^ i) t ∙ pow-add d (c + f) (k + g)
 
 -- A NETWORK'S SUM THROUGH THE PATTERNS OF ITS FIRST NODES
 pub state_sum-through : (delta : ℕ) (nodes rest : List Node) (open_names : List ℕ) (free more : ℕ) → HavePlaces nodes → HavePlaces rest → IsCut nodes rest open_names →

@@ -2,8 +2,6 @@
 --
 --     HasPlaces node          each partner of each term is a place of the node
 --     HavePlaces nodes        each node has its partners' places
---
--- Others cite: HavePlaces-from_nodes, HavePlaces-from_test (for nodes that are written out), EndsAre-term, sum_by_all, total_same.
 use Rattle.std.proofs.Common.{ltb, Bool, ◌≡◌, ℕ, ◌*◌, ◌<◌, true, ◌==◌, List, [], ◌∷◌, ◌++◌, map, length, get_or, slice_index, sum_by, refl, sym, ap, ◌∙◌, arith, All}
 use Rattle.std.specs.List.{list_all}
 use Rattle.std.specs.Set.{is_member}

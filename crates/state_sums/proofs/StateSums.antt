@@ -1,6 +1,4 @@
 -- A state sum as nested sums over labels: the form in which all laws, and programs that sum over states, use it.
---
--- Others cite: state_sum-nested, state_sum-labels.
 use Rattle.std.proofs.Common.{◌≡◌, ℕ, ◌+◌, ◌^◌, List, ap, ◌∙◌}
 use Rattle.graph_parts.specs.Parts.{part_count}
 use Rattle.graph_parts.specs.Labels.{label_of, label_count}

@@ -1,30 +1,15 @@
 -- A sum over states is sums inside sums, one for each node: the definition lists the states, the proofs go node by node.
 --
 --     total nodes f       over all states of the nodes, the weights times f of the state's edges, one node inside the other
---
--- Others cite: total_is (the definition's sum is `total`), total-append, total-times, total_cong, sum_by_same, sum_by-map,
--- sum_by-flat_map, sum_by-times.
-use Rattle.std.proofs.Common.{◌≡◌, ℕ, ◌+◌, ◌*◌, List, [], ◌∷◌, ◌++◌, map, sum_by, flat_map, refl, sym, ap, ◌∙◌, arith, append_assoc, mul_assoc, mul_left_comm}
-use Rattle.std.proofs.lemmas.List.Sums.{sum_by-cons, sum_by-append}
+use Rattle.std.proofs.Common.{◌≡◌, ℕ, ◌+◌, ◌*◌, ◌^◌, List, [], ◌∷◌, ◌++◌, map, sum_by, refl, ap, ◌∙◌, arith, append_assoc, mul_assoc, mul_left_comm}
+use Rattle.std.proofs.Math.Pow.{pow-add}
 use Rattle.state_sums.specs.Networks.{Node}
 use Rattle.state_sums.specs.StateSums.{states, state_edges, state_weight, term_edges}
+use Rattle.list_lemmas.proofs.Sums.{sum_by_same, sum_by-map, sum_by-flat_map, sum_by-times}
 
-pub sum_by_same : {X : Type 0} (f g : X → ℕ) (xs : List X) → ((x : X) → f x ≡ g x) → sum_by f xs ≡ sum_by g xs
-sum_by_same f g [] h = refl
-sum_by_same f g (x ∷ xs) h = sum_by-cons f x xs ∙ (let e = h x in let ih = sum_by_same f g xs h in omega arith) ∙ sym (sum_by-cons g x xs)
-
-pub sum_by-map : {X Y : Type 0} (f : Y → ℕ) (h : X → Y) (xs : List X) → sum_by f (map h xs) ≡ sum_by (λ x. f (h x)) xs
-sum_by-map f h [] = refl
-sum_by-map f h (x ∷ xs) = sum_by-cons f (h x) (map h xs) ∙ ap (λ n. f (h x) + n) (sum_by-map f h xs) ∙ sym (sum_by-cons (λ x. f (h x)) x xs)
-
-pub sum_by-flat_map : {X Y : Type 0} (f : Y → ℕ) (h : X → List Y) (xs : List X) → sum_by f (flat_map h xs) ≡ sum_by (λ x. sum_by f (h x)) xs
-sum_by-flat_map f h [] = refl
-sum_by-flat_map f h (x ∷ xs) = sum_by-append f (h x) (flat_map h xs) ∙ ap (λ n. sum_by f (h x) + n) (sum_by-flat_map f h xs) ∙ sym (sum_by-cons (λ x. sum_by f (h x)) x xs)
-
-pub sum_by-times : {X : Type 0} (k : ℕ) (f : X → ℕ) (xs : List X) → sum_by (λ x. k * f x) xs ≡ k * sum_by f xs
-sum_by-times k f [] = omega arith
-sum_by-times k f (x ∷ xs) =
-    let e = sum_by-cons (λ y. k * f y) x xs in let g = ap (λ n. k * n) (sum_by-cons f x xs) in let ih = sum_by-times k f xs in omega arith
+-- loops of both factors
+pub power_through : (d n c k f g : ℕ) → n ≡ c + k → d ^ (n + (f + g)) ≡ d ^ (c + f) * d ^ (k + g)
+power_through d n c k f g e = let t : n + (f + g) ≡ (c + f) + (k + g) = omega arith in ap (λ i. d ^ i) t ∙ pow-add d (c + f) (k + g)
 
 -- the sum over the states, one node inside the other
 abbrev pub total : List Node → (List (ℕ × ℕ) → ℕ) → ℕ

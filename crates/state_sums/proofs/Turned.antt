@@ -1,6 +1,4 @@
 -- A crossing turned by a quarter, with its weights exchanged, is the same crossing: its states have the same edges.
---
--- Others cite: turned_crossing.
 use Rattle.std.proofs.Common.{◌≡◌, ℕ, zero, suc, ◌*◌, ◌%◌, Bool, true, ◌||◌, ◌==◌, List, [], ◌∷◌, ◌++◌, Contains, refl, sym, ap, ◌∙◌, arith, ⊎_elim, inl, ◌⊎◌}
 use Rattle.std.specs.List.{AllPass}
 use Rattle.std.specs.Set.{is_member}

@@ -1,7 +1,4 @@
 -- Nodes that are written out are nodes by computing a test.
---
--- Others cite: IsPairing-from_test, IsNode-from_test (with `refl` at literal partners), IsNode-crossing, IsNode-weighted_arc,
--- IsNode-rename.
 use Rattle.std.proofs.Common.{ltb, ◌≡◌, ℕ, ◌+◌, ◌<◌, Bool, true, not, ◌&&◌, ◌==◌, List, map, length, slice_index, refl, sym, ap, ◌∙◌, subst, arith, All}
 use Rattle.std.specs.List.{list_all, range_with_len}
 use Rattle.std.proofs.lemmas.Bool.{ltb-true, eqb-true, eq-eqb, and_parts}

@@ -2,30 +2,31 @@
 use Rattle.std.specs.Prelude.{◌≡◌, ℕ, ◌+◌, ◌*◌, ◌%◌, ◌^◌, ◌≤◌, ◌==◌, true, false, List, [], ◌∷◌, ◌++◌, map, IsPermutation}
 use Rattle.std.specs.List.{All, AllPass}
 use Rattle.std.specs.Set.{is_member}
-use Rattle.graph_parts.specs.Renaming.{IsOneToOne, turned}
+use Rattle.graph_parts.specs.Renaming.{IsOneToOne, replaced}
 use Rattle.state_sums.specs.LocalSums.{pattern_sum, rest_sum, SameEverywhere, IsCut, open_of, rename, arc, weighted_arc, crossing, AreSkeinNumbers}
-use Rattle.state_sums.specs.Networks.{Node, Network, IsNode, names_of, times_in}
+use Rattle.state_sums.specs.Networks.{Node, Network, IsNode, names_of}
 use Rattle.state_sums.specs.StateSums.{value}
+use Rattle.list_lemmas.specs.Times.{times_in}
 
 -- A network with no node has one state, the empty one.
 abbrev pub NoNodesLaw : Type 0
 NoNodesLaw = (m delta free : ℕ) → value m delta record { nodes = []; free_loops = free } ≡ delta ^ free % m
 
 -- The order of the nodes does not matter.
-abbrev pub OrderLaw : Type 0
-OrderLaw =
+abbrev pub AnyOrderLaw : Type 0
+AnyOrderLaw =
     (m delta free : ℕ) (nodes permuted : List Node) → All IsNode nodes → IsPermutation nodes permuted →
     value m delta record { nodes = permuted; free_loops = free } ≡ value m delta record { nodes = nodes; free_loops = free }
 
 -- Names do not matter: other names, one to one, keep the value.
-abbrev pub RenamingLaw : Type 0
-RenamingLaw =
+abbrev pub AnyNamesLaw : Type 0
+AnyNamesLaw =
     (m delta free : ℕ) (new_name : ℕ → ℕ) (nodes : List Node) → All IsNode nodes → IsOneToOne new_name (names_of nodes) →
     value m delta record { nodes = rename new_name nodes; free_loops = free } ≡ value m delta record { nodes = nodes; free_loops = free }
 
 -- Two networks with no name in common have together the product of their values.
-abbrev pub DisjointUnionLaw : Type 0
-DisjointUnionLaw =
+abbrev pub DisjointNetworksLaw : Type 0
+DisjointNetworksLaw =
     (m delta free more : ℕ) (nodes others : List Node) → All IsNode nodes → All IsNode others →
     ((x : ℕ) → is_member ◌==◌ (names_of nodes) x ≡ true → is_member ◌==◌ (names_of others) x ≡ false) →
     value m delta record { nodes = nodes ++ others; free_loops = free + more }
@@ -35,16 +36,16 @@ DisjointUnionLaw =
 abbrev pub ArcLaw : Type 0
 ArcLaw =
     (m delta free x y : ℕ) (rest : List Node) → All IsNode rest → is_member ◌==◌ (names_of rest) x ≡ true → is_member ◌==◌ (names_of rest) y ≡ true →
-    value m delta record { nodes = arc x y ∷ rest; free_loops = free } ≡ value m delta record { nodes = rename (turned x y) rest; free_loops = free }
+    value m delta record { nodes = arc x y ∷ rest; free_loops = free } ≡ value m delta record { nodes = rename (replaced x y) rest; free_loops = free }
 
 -- Where no name stands three times, the names that stand once in the nodes cut them off from the rest.
-abbrev pub CutLaw : Type 0
-CutLaw = (nodes rest : List Node) → ((x : ℕ) → times_in (names_of nodes ++ names_of rest) x ≤ 2) → IsCut nodes rest (open_of nodes)
+abbrev pub CutAtOpenNamesLaw : Type 0
+CutAtOpenNamesLaw = (nodes rest : List Node) → ((x : ℕ) → times_in (names_of nodes ++ names_of rest) x ≤ 2) → IsCut nodes rest (open_of nodes)
 
 -- Gluing: a piece and the rest together count as the piece alone, where each pattern of its open names is worth what the
 -- rest then comes to. With no outer open name it is the value of a closed network.
-abbrev pub GluingLaw : Type 0
-GluingLaw =
+abbrev pub GluedPieceLaw : Type 0
+GluedPieceLaw =
     (delta free more : ℕ) (nodes rest : List Node) (inner outer : List ℕ) (worth : List ℕ → ℕ) → All IsNode nodes → All IsNode rest →
     IsCut nodes rest inner → AllPass (is_member ◌==◌ (names_of rest ++ inner)) outer →
     pattern_sum delta record { nodes = nodes ++ rest; free_loops = free + more } outer worth
@@ -59,13 +60,13 @@ ReplacementLaw =
     ≡ value m delta record { nodes = new.nodes ++ rest; free_loops = new.free_loops + more }
 
 -- To be the same everywhere is an equivalence of pieces.
-pub record IsEquivalence (m delta : ℕ) (open_names : List ℕ) : Type 0 where
+pub record SameEverywhereIsEquivalence (m delta : ℕ) (open_names : List ℕ) : Type 0 where
   pub itself : (piece : Network) → SameEverywhere m delta open_names piece piece
   pub back : (old new : Network) → SameEverywhere m delta open_names old new → SameEverywhere m delta open_names new old
   pub on : (old between new : Network) → SameEverywhere m delta open_names old between → SameEverywhere m delta open_names between new → SameEverywhere m delta open_names old new
 
 abbrev pub SameEverywhereLaw : Type 0
-SameEverywhereLaw = (m delta : ℕ) (open_names : List ℕ) → IsEquivalence m delta open_names
+SameEverywhereLaw = (m delta : ℕ) (open_names : List ℕ) → SameEverywhereIsEquivalence m delta open_names
 
 -- And it is kept under adding nodes, which may leave other names open.
 abbrev pub AddedNodesLaw : Type 0

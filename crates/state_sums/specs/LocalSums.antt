@@ -7,7 +7,8 @@
 --     coefficient delta piece open_names wanted         the same, over the states with the wanted pattern
 --     SameEverywhere m delta open_names old new         modulo m the two pieces have one coefficient at each pattern
 --     IsCut nodes rest open_names                       the nodes meet the rest in open names alone, and have each of these
---     open_of nodes                                     the names that stand once in the nodes
+--     open_names_in names                               the names that stand once in the list: those are open
+--     open_of nodes                                     the names that are open in the nodes
 --     rest_sum delta rest more inner outer worth found  what the rest comes to where the edges of a found pattern of the
 --                                                       inner open names stand in for a piece, and outer names are open
 --     rename new_name nodes                             the nodes with other names
@@ -15,13 +16,13 @@
 --     weighted_arc w x y                                the same with the weight w
 --     crossing a b w x y z                              a crossing: weight a on the pairs wx and yz, weight b on wz and xy
 --     AreSkeinNumbers m a b delta                       b is the inverse of a, and delta is -a^2 - b^2, modulo m
-use Rattle.std.specs.Prelude.{◌≡◌, ℕ, ◌+◌, ◌*◌, ◌^◌, ◌%◌, ◌==◌, if◌then◌else◌, true, List, [], ◌∷◌, ◌++◌, map}
-use Rattle.std.specs.List.{sum_by, AllPass, filter, zip}
-use Rattle.std.specs.Set.{is_member}
+use Rattle.std.specs.Prelude.{◌≡◌, ℕ, ◌+◌, ◌*◌, ◌^◌, ◌%◌, ◌==◌, if◌then◌else◌, List, [], ◌∷◌, ◌++◌, map}
+use Rattle.std.specs.List.{sum_by, filter, zip}
 use Rattle.std.specs.Str.{bytes_eq}
-use Rattle.graph_parts.specs.Patterns.{pattern, closed_parts}
-use Rattle.state_sums.specs.Networks.{Node, Network, names_of, times_in}
+use Rattle.graph_parts.specs.Patterns.{pattern, closed_parts, MeetOnlyIn}
+use Rattle.state_sums.specs.Networks.{Node, Network, names_of}
 use Rattle.state_sums.specs.StateSums.{states, state_edges, state_weight}
+use Rattle.list_lemmas.specs.Times.{times_in}
 
 -- Over all states, where a pattern of the open names counts as the worth says.
 unfoldable pub pattern_sum : ℕ → Network → List ℕ → (List ℕ → ℕ) → ℕ
@@ -42,13 +43,16 @@ pub record SameEverywhere (m delta : ℕ) (open_names : List ℕ) (old new : Net
   pub at : (wanted : List ℕ) → coefficient delta old open_names wanted % m ≡ coefficient delta new open_names wanted % m
 
 -- The nodes meet the rest in open names alone, and have each of those.
-pub record IsCut (nodes rest : List Node) (open_names : List ℕ) : Type 0 where
-  pub has_open : AllPass (is_member ◌==◌ (names_of nodes)) open_names
-  pub meets : (x : ℕ) → is_member ◌==◌ (names_of rest) x ≡ true → is_member ◌==◌ (names_of nodes) x ≡ true → is_member ◌==◌ open_names x ≡ true
+abbrev pub IsCut : List Node → List Node → List ℕ → Type 0
+IsCut nodes rest open_names = MeetOnlyIn (names_of nodes) (names_of rest) open_names
 
 -- The names that stand once.
+abbrev pub open_names_in : List ℕ → List ℕ
+open_names_in names = filter (λ x. times_in names x == 1) names
+
+-- The open names of the nodes.
 abbrev pub open_of : List Node → List ℕ
-open_of nodes = filter (λ x. times_in (names_of nodes) x == 1) (names_of nodes)
+open_of nodes = open_names_in (names_of nodes)
 
 -- Over the states of the rest, where the edges from each inner open name to its fellow in the found pattern stand in for a
 -- piece.

@@ -9,11 +9,11 @@
 --     IsNode node            each term pairs all the ends of the node
 --     Network                nodes, and a number of free loops: the data alone, a network where `IsNetwork` holds
 --     names_of nodes         the names of all ends, in order, each as often as it stands
---     times_in names x       how often the name stands in the list
 --     IsNetwork network      each node is one, and each name stands exactly twice
 --     WeightsBelow m nodes   each weight is below m
 use Rattle.std.specs.Prelude.{◌≡◌, ◌≢◌, ℕ, ◌<◌, ◌==◌, List, length, slice_index}
-use Rattle.std.specs.List.{All, count_by, flat_map}
+use Rattle.std.specs.List.{All, flat_map}
+use Rattle.list_lemmas.specs.Times.{times_in}
 use Rattle.std.specs.Set.{is_member}
 use Rattle.std.proofs.Common.{true}
 
@@ -46,10 +46,6 @@ pub record Network : Type 0 where
 -- The names of all ends, in order.
 abbrev pub names_of : List Node → List ℕ
 names_of nodes = flat_map (λ node. node.ends) nodes
-
--- How often the name stands in the list.
-abbrev pub times_in : List ℕ → ℕ → ℕ
-times_in names x = count_by (λ y. x == y) names
 
 -- Every name stands exactly twice over all nodes; both of its places may be ends of one node.
 pub record IsNetwork (network : Network) : Type 0 where

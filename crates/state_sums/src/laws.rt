@@ -1,6 +1,6 @@
 //! The laws of state sums: each function has an empty body, and its contract is the law. They are stated in `specs/Laws.antt`.
 
-ghost use Rattle.state_sums.specs.Laws.{NoNodesLaw, OrderLaw, RenamingLaw, DisjointUnionLaw, ArcLaw, CutLaw, GluingLaw, ReplacementLaw, SameEverywhereLaw, AddedNodesLaw, LocalRenamingLaw, AnywhereLaw, QuarterTurnLaw, CurlLaw, OtherCurlLaw, SecondMoveLaw, ThirdMoveLaw};
+ghost use Rattle.state_sums.specs.Laws.{NoNodesLaw, AnyOrderLaw, AnyNamesLaw, DisjointNetworksLaw, ArcLaw, CutAtOpenNamesLaw, GluedPieceLaw, ReplacementLaw, SameEverywhereLaw, AddedNodesLaw, LocalRenamingLaw, AnywhereLaw, QuarterTurnLaw, CurlLaw, OtherCurlLaw, SecondMoveLaw, ThirdMoveLaw};
 
 /// A network with no node has one state, the empty one: its value is delta to the power of its free loops.
 pub fn no_nodes()
@@ -9,17 +9,17 @@ pub fn no_nodes()
 
 /// The order of the nodes does not matter.
 pub fn any_order()
-    ensures { OrderLaw }
+    ensures { AnyOrderLaw }
 {}
 
 /// Other names, one to one, keep the value.
 pub fn any_names()
-    ensures { RenamingLaw }
+    ensures { AnyNamesLaw }
 {}
 
 /// Two networks with no name in common have together the product of their values.
-pub fn disjoint_union()
-    ensures { DisjointUnionLaw }
+pub fn disjoint_networks()
+    ensures { DisjointNetworksLaw }
 {}
 
 /// An arc between two names makes them one; read backwards, it cuts a name in two.
@@ -28,13 +28,13 @@ pub fn arc_joins()
 {}
 
 /// Where no name stands three times, the names that stand once in some nodes cut them off from the rest.
-pub fn cut_at_single_names()
-    ensures { CutLaw }
+pub fn cut_at_open_names()
+    ensures { CutAtOpenNamesLaw }
 {}
 
 /// A piece and the rest together count as the piece alone, where each pattern of its open names is worth what the rest then comes to.
-pub fn gluing()
-    ensures { GluingLaw }
+pub fn glued_piece()
+    ensures { GluedPieceLaw }
 {}
 
 /// Pieces with one coefficient at each pattern of their open names are interchangeable in every network.

@@ -11,8 +11,8 @@ use Rattle.std.proofs.lemmas.List.{get_or_append_left, get_or-append_right}
 use Rattle.std.proofs.lemmas.List.FromFn.{fill_by_all, length-map-range_with_len, get_or-map-range_with_len, length-range_with_len, get_or-range_with_len}
 use Rattle.std.proofs.lemmas.List.Sums.{sum_by-cons}
 use Rattle.std.proofs.lemmas.Map.Keys.{sorted_from_strictly_increasing}
-use Rattle.arc_gluing.proofs.PointPairs.{times_in-append}
-use Rattle.state_sums.specs.Networks.{times_in}
+use Rattle.list_lemmas.proofs.Times.{times_in-append}
+use Rattle.list_lemmas.specs.Times.{times_in}
 use Rattle.strand_algebra.specs.GluedProducts.{below_names, above_names, left_names, SeamLaw}
 use Rattle.strand_algebra.proofs.Gluings.{above_name, glued_name, left_at, left_length}
 use Rattle.strand_algebra.proofs.LabelProducts.{outer}

@@ -13,7 +13,7 @@ use Rattle.std.specs.Prelude.{◌≡◌, ℕ, ◌+◌, ◌-◌, ◌≤◌, nat_l
 use Rattle.std.specs.List.{range_with_len}
 use Rattle.std.specs.List.Sorted.{IsStrictlyIncreasing}
 use Rattle.graph_parts.specs.Patterns.{closed_parts}
-use Rattle.state_sums.specs.Networks.{times_in}
+use Rattle.list_lemmas.specs.Times.{times_in}
 use Rattle.arc_gluing.specs.Pairings.{pair_edges, partners_of, AreOpen}
 use Rattle.strand_algebra.specs.StrandPairings.{IsPairingOn, straight, product, product_loops, closure_loops}
 

@@ -14,9 +14,9 @@ use Rattle.std.proofs.lemmas.Map.Keys.{sorted_from_strictly_increasing}
 use Rattle.std.specs.Ordering.{nat_cmp}
 use Rattle.graph_parts.proofs.Agreement.{from_All}
 use Rattle.graph_parts.proofs.Distinct.{is_member-append}
-use Rattle.state_sums.specs.Networks.{times_in}
+use Rattle.list_lemmas.specs.Times.{times_in}
 use Rattle.arc_gluing.specs.Pairings.{AreOpen}
-use Rattle.arc_gluing.proofs.AllEdges.{member_of_times}
+use Rattle.list_lemmas.proofs.Times.{member_of_times}
 use Rattle.arc_pairing.specs.Gluing.{Seam, single_count}
 use Rattle.arc_pairing.specs.declared.seam.TooWide.{TooWide}
 use Rattle.std.specs.Result.{IsOk, IfOk}

@@ -6,7 +6,7 @@
 -- 3, 1, 2 is a listing of three items, and of no other number of them; the empty list is one of no item.
 use Rattle.std.specs.Prelude.{◌&&◌, ◌==◌, ℕ, Bool, true, List, length}
 use Rattle.std.specs.List.{list_all, range_with_len}
-use Rattle.state_sums.specs.Networks.{times_in}
+use Rattle.list_lemmas.specs.Times.{times_in}
 use Rattle.wrt_request.specs.declared.order.OrderWord.{OrderWord}
 use Rattle.wrt_request.specs.declared.order.OrderWord.TheVariants.{Listed, Greedy, Given}
 

@@ -2,7 +2,7 @@
 
 ghost use Rattle.std.specs.Prelude.{◌≡◌, ◌≤◌, ◌==◌, true, false, OnOk, IfErr, length};
 ghost use Rattle.std.specs.List.{list_all, range_with_len};
-ghost use Rattle.state_sums.specs.Networks.{times_in};
+ghost use Rattle.list_lemmas.specs.Times.{times_in};
 ghost use Rattle.wrt_commands.specs.declared.refusal.Refusal.TheVariants as refusals;
 ghost use Rattle.wrt_commands.specs.ItemOrders.{is_listing, is_order_of};
 ghost use Rattle.wrt_commands.specs.Outcomes.{crossing_count};

@@ -1,5 +1,5 @@
 use Rattle.std.proofs.Common.{◌==◌, length, ap, arith}
-use Rattle.state_sums.specs.Networks.{times_in}
+use Rattle.list_lemmas.specs.Times.{times_in}
 use Rattle.arc_pairing.proofs.SeamLists.{few_filtered}
 use Rattle.arc_pairing.proofs.seam.single_names.Goals as goal
 

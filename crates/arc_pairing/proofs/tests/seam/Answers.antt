@@ -1,8 +1,8 @@
 use Rattle.std.proofs.Common.{ℕ, ◌-◌, ◌≤◌, ◌==◌, cond, ◌++◌, take, drop, arith}
 use Rattle.std.specs.List.{range_with_len}
 use Rattle.std.proofs.lemmas.List.Sums.{sum_by-take-drop}
-use Rattle.state_sums.specs.Networks.{times_in}
-use Rattle.arc_gluing.proofs.PointPairs.{times_in-append}
+use Rattle.list_lemmas.specs.Times.{times_in}
+use Rattle.list_lemmas.proofs.Times.{times_in-append}
 use Rattle.arc_gluing.proofs.Seamed.{range_times}
 use Rattle.arc_pairing.proofs.tests.seam.Goals as goal
 

@@ -1,5 +1,5 @@
 use Rattle.std.proofs.Common.{arith}
-use Rattle.arc_gluing.proofs.Items.{member_at}
+use Rattle.list_lemmas.proofs.Items.{member_at}
 use Rattle.frontier_sweep.proofs.frontier.index_of.Goals as goal
 
 pub returns-clause-within : goal.returns-clause-within

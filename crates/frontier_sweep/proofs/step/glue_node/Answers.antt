@@ -1,5 +1,5 @@
 use Rattle.std.proofs.Common.{ℕ, ◌<◌, ◌≤◌, ◌++◌, List, refl, ap, sym, subst, ◌∙◌}
-use Rattle.state_sums.specs.Networks.{times_in}
+use Rattle.list_lemmas.specs.Times.{times_in}
 use Rattle.arc_pairing.specs.Gluing.{single_count}
 use Rattle.frontier_sweep.proofs.step.glue_node.Goals as goal
 

@@ -2,7 +2,7 @@ use Rattle.std.proofs.Common.{◌≡◌, ◌==◌, length, map, take, get_or, ap
 use Rattle.std.specs.Set.{distinct_count}
 use Rattle.std.proofs.lemmas.Grind.{common_steps}
 use Rattle.std.proofs.lemmas.List.{get_or_read, length-map}
-use Rattle.graph_parts.specs.Renaming.{turned}
+use Rattle.graph_parts.specs.Renaming.{replaced}
 use Rattle.graph_parts.specs.Labels.{label_of}
 use Rattle.plain_sum.specs.Places.{named}
 use Rattle.plain_sum.proofs.Labelled.{one_more, counted}
@@ -19,8 +19,8 @@ loop-edge-preserved c =
     let f = get_or_read items e.0 c.index-from.result.now (omega (arith, n, b.0)) c.index-from.ensures 0 in
     let t = get_or_read items e.1 c.index-to.result.now (omega (arith, n, b.1)) c.index-to.ensures 0 in
     let s = one_more c.args.names.now edges i c.loop-edge-test.true c.requires items c.loop-edge.invariant in
-    let values = ap (λ ls. map (turned c.index-from.result.now c.index-to.result.now) ls) c.as_mut_slice.ensures.value in
-    let ends = ap (λ k. map (turned k c.index-to.result.now) items) f ∙ ap (λ k. map (turned (get_or items e.0 0) k) items) t in
+    let values = ap (λ ls. map (replaced c.index-from.result.now c.index-to.result.now) ls) c.as_mut_slice.ensures.value in
+    let ends = ap (λ k. map (replaced k c.index-to.result.now) items) f ∙ ap (λ k. map (replaced (get_or items e.0 0) k) items) t in
     grind (arith, common_steps, s, values, ends, c.turn.ensures)
 
 pub returns-clause-value : goal.returns-clause-value

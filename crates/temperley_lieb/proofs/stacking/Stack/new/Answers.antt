@@ -1,7 +1,7 @@
 use Rattle.std.proofs.Common.{ℕ, ◌≡◌, ◌+◌, ◌≤◌, ◌++◌, List, sym, ap₂, subst, ◌∙◌}
 use Rattle.std.specs.List.{range_with_len}
 use Rattle.std.specs.List.Sorted.{IsStrictlyIncreasing}
-use Rattle.state_sums.specs.Networks.{times_in}
+use Rattle.list_lemmas.specs.Times.{times_in}
 use Rattle.arc_gluing.specs.Pairings.{AreOpen}
 use Rattle.arc_pairing.specs.Gluing.{single_count}
 use Rattle.strand_algebra.specs.StrandPairings.{outer_names}

@@ -1,5 +1,0 @@
-use Rattle.state_sums.proofs.NetworkLaws.{cut_at_single_names}
-use Rattle.state_sums.proofs.laws.cut_at_single_names.Goals as goal
-
-pub returns : goal.returns
-returns c = cut_at_single_names
