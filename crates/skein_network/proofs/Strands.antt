@@ -1,6 +1,4 @@
 -- The strands of a diagram: nodes and loops of one more item, and each name stands twice since each label does.
---
--- Others cite: one_crossing, one_loop, loops_more (a turn of the loop over the items), slots_within, stands_twice, never_miscounted,
 -- weights_below.
 use Rattle.std.proofs.Common.{◌≡◌, ℕ, zero, suc, ◌+◌, ◌-◌, ◌*◌, pos, ◌≤◌, ◌<◌, ◌==◌, true, cond, List, [], ◌∷◌, ◌++◌, map, length, get_or, take, refl, sym, ap, ◌∙◌, subst, arith, All, ⊎_elim, append-nil}
 use Rattle.std.specs.List.{AllByRecursion}

@@ -4,8 +4,6 @@
 --     Algebra m            sums, multiples and products with their laws, up to Same
 --     AreHooks             elements with the relations of Temperley and Lieb at the loop value d
 --     AreProjectors        elements made by Wenzl's recursion, with the ratios of the Delta_n
---
--- Others cite: Algebra, AreHooks, AreProjectors.
 use Rattle.std.specs.Prelude.{ℕ, zero, suc, ◌<◌, ℤ, pos, ◌+ℤ◌, ◌*ℤ◌, neg_ℤ}
 use Rattle.ring_identities.specs.Residues.{Congruent}
 

@@ -1,7 +1,5 @@
 -- The product of pairings is associative, with its loops: on both sides the product stands in for a stack, and what arises is
 -- the stack of three, with its edges in another order.
---
--- Others cite: product_assoc, loops_assoc.
 use Rattle.std.proofs.Common.{◌≡◌, ℕ, ◌+◌, ◌-◌, ◌<◌, ◌≤◌, true, false, not, nat_lt, ◌&&◌, ◌||◌, ◌==◌, if◌then◌else◌, List, [], ◌∷◌, ◌++◌, map, refl, sym, ap, ap₂, ◌∙◌, arith, Contains, ⊎_elim}
 use Rattle.std.proofs.lemmas.List.Elements.{Contains-append_left, Contains-append_right, Contains-append_cases}
 use Rattle.std.proofs.lemmas.Bool.{cases_Bool, or_left, or_right, or_cases}
@@ -9,6 +7,7 @@ use Rattle.std.proofs.lemmas.Bool.Decides.{nat_tests}
 use Rattle.std.proofs.lemmas.List.{map-append}
 use Rattle.std.specs.List.{range_with_len}
 use Rattle.std.specs.Set.{is_member}
+use Rattle.list_lemmas.proofs.Ranges.{is_member-range}
 use Rattle.graph_parts.proofs.Agreement.{label_count-agree, to_All}
 use Rattle.graph_parts.proofs.Distinct.{is_member-append}
 use Rattle.graph_parts.proofs.Ends.{EndsAre-append}
@@ -20,7 +19,7 @@ use Rattle.graph_parts.specs.Renaming.{renamed}
 use Rattle.strand_algebra.proofs.Contractions.{named, map-named, below_range, in_map, out_map, label_count-members, EndsAre-range, EndsAre-named, EndsAre-stack, es, ps, names, open_names}
 use Rattle.strand_algebra.proofs.LabelProducts.{label_parts, pairs, label_stack, outer, other, label_product, label_loops, IsPairingOf}
 use Rattle.strand_algebra.proofs.OneSide.{named_same, map_range, side_tells, side_count}
-use Rattle.strand_algebra.proofs.Stacks.{outer_below, is_member-range, IsPairingOf-product}
+use Rattle.strand_algebra.proofs.Stacks.{outer_below, IsPairingOf-product}
 use Rattle.strand_algebra.proofs.Walking.{Agree-same_edges}
 use Rattle.strand_algebra.specs.StrandPairings.{seams}
 

@@ -1,14 +1,13 @@
 -- Products, loops and closures by parts are those by labels, so what is proved by labels holds for the definitions.
---
--- Others cite: IsPairingOf-from_points, IsPairingOn-from_points, pair_edges-pairs, chosen, product-labels, product_loops-labels, closure_loops-labels.
 use Rattle.std.proofs.Common.{◌≡◌, ◌≢◌, ℕ, ◌+◌, ◌-◌, ◌<◌, ◌≤◌, true, ◌||◌, ◌==◌, nat_lt, List, ◌++◌, map, length, length-append, slice_index, zip, refl, sym, ap, ◌∙◌, arith, ⊎_elim}
 use Rattle.std.specs.List.{range_with_len, AllPass}
 use Rattle.std.specs.Set.{is_member}
-use Rattle.std.proofs.lemmas.Bool.{cases_Bool, eqb-true, eq-eqb}
+use Rattle.std.proofs.lemmas.Bool.{cases_Bool, eqb-true, eq-eqb, or_right}
 use Rattle.std.proofs.lemmas.Bool.Decides.{nat_tests}
 use Rattle.std.proofs.lemmas.List.{get_or_append_left, get_or-append_right, get_or-map, length-map}
 use Rattle.std.proofs.lemmas.List.FromFn.{fill_by_all, length-map-range_with_len, get_or-map-range_with_len, length-range_with_len, get_or-range_with_len}
 use Rattle.std.proofs.lemmas.Slice.Zip.{get_or-zip, length-zip}
+use Rattle.list_lemmas.proofs.Ranges.{is_member-range}
 use Rattle.graph_parts.specs.Ends.{AreAmong}
 use Rattle.graph_parts.specs.Labels.{label_of, label_count}
 use Rattle.graph_parts.specs.Patterns.{closed_parts}
@@ -22,8 +21,7 @@ use Rattle.arc_gluing.proofs.ByParts.{partners_of-labels}
 use Rattle.arc_gluing.proofs.Places.{AreOnce, label_partners-is}
 use Rattle.strand_algebra.specs.StrandPairings.{IsPairingOn, seams, stack, stack_names, outer_names, product, product_loops, closure, closure_loops}
 use Rattle.strand_algebra.proofs.LabelProducts.{IsPairingOf, pairs, label_stack, outer, label_product, label_loops, label_closed_loops, label_parts}
-use Rattle.strand_algebra.proofs.Matchings.{Matches}
-use Rattle.strand_algebra.proofs.Stacks.{or_second, is_below, is_member-range, Matches-product, IsPairingOf-product, inner, inner_outer}
+use Rattle.strand_algebra.proofs.Stacks.{is_below, Matches-product, IsPairingOf-product, inner, inner_outer}
 use Rattle.strand_algebra.proofs.Contractions.{EndsAre-stack, EndsAre-named, EndsAre-range, out_map}
 
 pub IsPairingOf-from_points : (n : ℕ) (p : List ℕ) → IsPairingOn n p → IsPairingOf (n + n) p
@@ -107,14 +105,11 @@ module _ (n : ℕ) (p q : List ℕ) (hp : IsPairingOf (n + n) p) (hq : IsPairing
   among : AreAmong (stack_names n) (label_stack n p q)
   among = EndsAre-stack n p q hp hq
 
-  abbrev tells_outer : Matches (λ i. nat_lt i (n + n)) (λ i. label_of (label_stack n p q) (outer n i)) (slice_index (label_product n p q))
-  tells_outer = Matches-product n p q hp hq
-
   is_paired : IsPairedLabels (label_stack n p q) (outer_names n) (label_product n p q)
   is_paired =
       let own = IsPairingOf-product n p q hp hq in
       let label : ℕ → ℕ = label_of (label_stack n p q) in
-      let s = own.length_is in
+      let tells = Matches-product n p q hp hq in
       let l = outer_length n in
       record {
         whole = own.length_is ∙ sym l;
@@ -122,14 +117,14 @@ module _ (n : ℕ) (p q : List ℕ) (hp : IsPairingOf (n + n) p) (hq : IsPairing
         joined = λ i b.
             let c : i < n + n = omega (arith, l, b) in
             let d : slice_index (label_product n p q) i < n + n = own.stays i c in
-            let t = tells_outer.tells i (slice_index (label_product n p q) i) (is_below (n + n) i c) (is_below (n + n) _ d) in
+            let t = tells.tells i (slice_index (label_product n p q) i) (is_below (n + n) i c) (is_below (n + n) _ d) in
             ap label (outer_at n (slice_index (label_product n p q) i) d)
-            ∙ sym (eqb-true (label (outer n i)) (label (outer n (slice_index (label_product n p q) i))) (t ∙ or_second (i == slice_index (label_product n p q) i) _ (eq-eqb _ _ refl)))
+            ∙ sym (eqb-true (label (outer n i)) (label (outer n (slice_index (label_product n p q) i))) (t ∙ or_right (i == slice_index (label_product n p q) i) _ (eq-eqb _ _ refl)))
             ∙ sym (ap label (outer_at n i c));
         only = λ i j a b e d.
             let ci : i < n + n = omega (arith, l, a) in
             let cj : j < n + n = omega (arith, l, b) in
-            let t = tells_outer.tells i j (is_below (n + n) i ci) (is_below (n + n) j cj) in
+            let t = tells.tells i j (is_below (n + n) i ci) (is_below (n + n) j cj) in
             chosen i j (slice_index (label_product n p q) i) (sym t ∙ told (label (outer n i)) (label (outer n j)) (sym (ap label (outer_at n i ci)) ∙ e ∙ ap label (outer_at n j cj))) d;
       }
 

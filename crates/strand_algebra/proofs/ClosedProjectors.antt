@@ -1,8 +1,7 @@
 -- The closure of the projector on n + 1 strands is Delta (n + 1): closing passes through the recursion by the trace, by one
 -- strand more, and by the hook that closes a strand.
---
--- Others cite: total-exchange, own_square, projector_closed.
 use Rattle.std.proofs.Common.{◌≡◌, ℕ, zero, suc, ◌+◌, ◌<◌, List, [], ◌∷◌, ℤ, pos, ◌+ℤ◌, ◌*ℤ◌, neg_ℤ, refl, sym, ap, ap₂, ◌∙◌, arith}
+use Rattle.ring_identities.proofs.PowerLemmas.{power-add}
 use Rattle.ring_identities.proofs.Congruences.{congruent_refl, congruent_eq, congruent_trans, congruent_sym, congruent_plus, congruent_times}
 use Rattle.ring_identities.proofs.Identities.{reads, by_ring}
 use Rattle.ring_identities.specs.Powers.{power}
@@ -15,7 +14,7 @@ use Rattle.strand_algebra.proofs.HookedClosures.{hook_closed}
 use Rattle.strand_algebra.proofs.LabelProducts.{label_product, label_loops, label_closed_loops, hooked_behind}
 use Rattle.strand_algebra.proofs.PairingAlgebra.{AreTerms-multiply, times_alike, assoc_alike, unit_alike}
 use Rattle.strand_algebra.proofs.ProjectorTower.{total-beside, AreTerms-beside, beside_multiply, AreTerms-projector, projector_square}
-use Rattle.strand_algebra.proofs.Totals.{AreTerms, total_same, total-times, total-plus, total-nothing, total-append, total-scale, within, total-multiply, power-add}
+use Rattle.strand_algebra.proofs.Totals.{AreTerms, total_same, total-times, total-plus, total-nothing, total-append, total-scale, within, total-multiply}
 use Rattle.strand_algebra.proofs.WenzlScalars.{ratio, closures}
 use Rattle.strand_algebra.proofs.WiderClosures.{closed_widened}
 use Rattle.strand_algebra.specs.StrandPairings.{widened}

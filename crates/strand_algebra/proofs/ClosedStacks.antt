@@ -1,6 +1,4 @@
 -- The closure of a product is the ring of both pairings, and a ring may be turned: so two pairings close alike in either order.
---
--- Others cite: closing, ring, ring_count, trace.
 use Rattle.std.proofs.Common.{◌≡◌, ℕ, ◌+◌, ◌-◌, ◌<◌, true, nat_lt, ◌==◌, if◌then◌else◌, List, [], ◌∷◌, ◌++◌, map, refl, sym, ap, ap₂, ◌∙◌, arith, Contains, ⊎_elim}
 use Rattle.std.proofs.lemmas.Bool.{or_left, or_cases}
 use Rattle.std.proofs.lemmas.Bool.Decides.{nat_tests}
@@ -8,6 +6,7 @@ use Rattle.std.proofs.lemmas.List.{map-append}
 use Rattle.std.proofs.lemmas.List.Elements.{Contains-append_left, Contains-append_right, Contains-append_cases}
 use Rattle.std.specs.List.{range_with_len}
 use Rattle.std.specs.Set.{is_member}
+use Rattle.list_lemmas.proofs.Ranges.{is_member-range}
 use Rattle.graph_parts.proofs.Agreement.{label_count-agree, to_All}
 use Rattle.graph_parts.proofs.Distinct.{is_member-append}
 use Rattle.graph_parts.proofs.Ends.{EndsAre-append}
@@ -18,7 +17,7 @@ use Rattle.graph_parts.specs.Renaming.{renamed}
 use Rattle.strand_algebra.proofs.Contractions.{map-named, below_range, in_map, out_map, label_count-members, EndsAre-range, EndsAre-named, EndsAre-stack, label_count-names, es, ps, names, open_names, contract_count}
 use Rattle.strand_algebra.proofs.LabelProducts.{closed_edges, label_parts, pairs, label_stack, outer, label_product, label_loops, label_closed_loops, IsPairingOf}
 use Rattle.strand_algebra.proofs.OneSide.{named_same, map_range}
-use Rattle.strand_algebra.proofs.Stacks.{outer_below, is_member-range, IsPairingOf-product, inner, inner_outer}
+use Rattle.strand_algebra.proofs.Stacks.{outer_below, IsPairingOf-product, inner, inner_outer}
 use Rattle.strand_algebra.proofs.Walking.{Agree-same_edges}
 use Rattle.strand_algebra.specs.StrandPairings.{seams}
 

@@ -3,17 +3,16 @@
 --
 --     signed x            the terms of x as a formal sum over the whole numbers
 --     AreNoncrossingTerms n x    each pairing of x is a noncrossing one of 2n points
---
--- Others cite: signed, AreNoncrossingTerms, only_at, picked, coefficient_total, bytes_eq-same, less_differs, differs_less, collected_alike, IsElement-collected, noncrossing_element, same_elements, coefficient_below.
-use Rattle.std.proofs.Common.{◌≡◌, ℕ, zero, suc, ◌+◌, ◌%◌, ◌<◌, Bool, true, false, cond, if◌then◌else◌, List, [], ◌∷◌, map, length, get_or, drop, ℤ, pos, ◌+ℤ◌, ◌*ℤ◌, refl, sym, ap, ap₂, ◌∙◌, arith, subst, All, Contains, Ordering, Less, Equal, Greater, ⊎_elim, mod-lt}
+use Rattle.std.proofs.Common.{◌≡◌, ℕ, zero, suc, ◌+◌, ◌%◌, ◌<◌, Bool, true, false, cond, if◌then◌else◌, List, [], ◌∷◌, ◌++◌, map, length, get_or, drop, ℤ, pos, ◌+ℤ◌, ◌*ℤ◌, refl, sym, ap, ap₂, ◌∙◌, arith, subst, All, Contains, Ordering, Less, Equal, Greater, ⊎_elim, mod-lt}
 use Rattle.std.specs.List.{AllByRecursion}
 use Rattle.std.specs.List.Sorted.{IsStrictlySortedBy}
 use Rattle.std.specs.Cmp.Lexicographic.{slice_cmp}
 use Rattle.std.specs.Ordering.{nat_cmp}
 use Rattle.std.specs.Str.{bytes_eq}
-use Rattle.std.proofs.lemmas.Bool.{cases_Bool}
+use Rattle.std.proofs.lemmas.Bool.{cases_Bool, false_from_ne_true}
+use Rattle.std.proofs.lemmas.List.{map-id}
 use Rattle.std.proofs.lemmas.List.Elements.{All-map, All-head, All-tail}
-use Rattle.std.proofs.lemmas.List.Sums.{sum_by-cons}
+use Rattle.std.proofs.lemmas.List.Sums.{sum_by-append, sum_by-cons}
 use Rattle.std.proofs.lemmas.Slice.Eq.{bytes_eq-Decides}
 use Rattle.graph_parts.proofs.Renaming.{map_map}
 use Rattle.ring_identities.specs.Residues.{Congruent}
@@ -44,6 +43,9 @@ picked p term = if bytes_eq p term.partner then term.weight else 0
 coefficient-cons : (t : Term) (x : List Term) (p : List ℕ) → coefficient (t ∷ x) p ≡ picked p t + coefficient x p
 coefficient-cons t x p = sum_by-cons (picked p) t x
 
+pub coefficient-append : (x y : List Term) (p : List ℕ) → coefficient (x ++ y) p ≡ coefficient x p + coefficient y p
+coefficient-append x y p = sum_by-append (picked p) x y
+
 picked_signed : (a : ℕ) (b : Bool) → pos (cond b a 0) ≡ pos a *ℤ cond b (pos 1) (pos 0)
 picked_signed a true = by_ring (pos a ∷ []) (search reads depth 30) (search reads depth 30) refl
 picked_signed a false = by_ring (pos a ∷ []) (search reads depth 30) (search reads depth 30) refl
@@ -54,9 +56,6 @@ coefficient_total [] p = refl
 coefficient_total (t ∷ x) p = ap pos (coefficient-cons t x p) ∙ ap₂ (λ a b. a +ℤ b) (picked_signed t.weight (bytes_eq p t.partner)) (coefficient_total x p)
 
 -- ---- equality of pairings by the test
-same_from : (p q : List ℕ) → bytes_eq p q ≡ true → p ≡ q
-same_from p q h = (bytes_eq-Decides p q).0 h
-
 pub bytes_eq-same : (p : List ℕ) → bytes_eq p p ≡ true
 bytes_eq-same p = (bytes_eq-Decides p p).1 refl
 
@@ -74,14 +73,11 @@ not_less p q e h = distinct (sym (order_same p) ∙ ap (slice_cmp nat_cmp p) e �
     distinct : Equal ≡ Less → ⊥
     distinct h = apart (ap is_less h)
 
-from_refuted : (b : Bool) → (b ≡ true → ⊥) → b ≡ false
-from_refuted b h = ⊎_elim (λ t. absurd (h t)) (λ f. f) (cases_Bool b)
-
 pub less_differs : (p q : List ℕ) → slice_cmp nat_cmp p q ≡ Less → bytes_eq q p ≡ false
-less_differs p q h = from_refuted (bytes_eq q p) (λ t. not_less p q (sym (same_from q p t)) h)
+less_differs p q h = false_from_ne_true (bytes_eq q p) (λ t. not_less p q (sym ((bytes_eq-Decides q p).0 t)) h)
 
 pub differs_less : (p q : List ℕ) → slice_cmp nat_cmp p q ≡ Less → bytes_eq p q ≡ false
-differs_less p q h = from_refuted (bytes_eq p q) (λ t. not_less p q (same_from p q t) h)
+differs_less p q h = false_from_ne_true (bytes_eq p q) (λ t. not_less p q ((bytes_eq-Decides p q).0 t) h)
 
 each_at : {X : Type 0} (P : X → Type 0) (xs : List X) (x : X) → AllByRecursion P xs → Contains xs x → P x
 each_at P [] x p c = absurd (let l = c.1 in omega (arith, l))
@@ -146,14 +142,10 @@ collected_alike m n x h f w =
     congruent_trans (congruent_eq (ap (λ s. total s w) (map_map (λ term. (pos term.weight, term.partner)) (λ p. record { weight = coefficient x p % m; partner = p }) (noncrossing n))))
     (congruent_trans (weighed_mod m (coefficient x) (noncrossing n) w h) (congruent_eq (weighed_coefficients n x w f)))
 
-map_id : (ps : List (List ℕ)) → map (λ p. p) ps ≡ ps
-map_id [] = refl
-map_id (p ∷ ps) = ap (λ k. p ∷ k) (map_id ps)
-
 -- AND IS AN ELEMENT
 pub IsElement-collected : (m n : ℕ) (x : List Term) → 0 < m → IsElement m n (collected m n x)
 IsElement-collected m n x h = record {
-  partners = map_map (λ term. term.partner) (λ p. record { weight = coefficient x p % m; partner = p }) (noncrossing n) ∙ map_id (noncrossing n);
+  partners = map_map (λ term. term.partner) (λ p. record { weight = coefficient x p % m; partner = p }) (noncrossing n) ∙ map-id (noncrossing n);
   below = All-map (λ term. term.weight < m) (λ p. record { weight = coefficient x p % m; partner = p }) (noncrossing n) (λ i d l. mod-lt (coefficient x (get_or (noncrossing n) i d)) h);
 }
 
@@ -196,7 +188,7 @@ same_lists m (t ∷ x) (u ∷ y) h e s r a b c =
     ap₂ (λ f g. f ∷ g) (λ i. record { weight = weights i; partner = first i })
     (same_lists m x y h (ap (drop 1) e) s.1 r.1 (All-tail small t x a) (All-tail small u y b)
     (λ p. ⊎_elim
-    (λ q. let same : p ≡ t.partner = same_from p t.partner q in
+    (λ q. let same : p ≡ t.partner = (bytes_eq-Decides p t.partner).0 q in
     congruent_eq (ap pos (ap (coefficient x) same ∙ absent t.partner x s.0 ∙ sym (ap (coefficient y) (same ∙ first) ∙ absent u.partner y r.0))))
     (λ q. congruent_trans (congruent_eq (ap pos (sym (elsewhere t x p q))))
     (congruent_trans (c p) (congruent_eq (ap pos (elsewhere u y p (ap (bytes_eq p) (sym first) ∙ q))))))
@@ -215,7 +207,7 @@ below_list m [] p h s a = h
 below_list m (t ∷ x) p h s a =
     let small : Term → Type 0 = λ term. term.weight < m in
     ⊎_elim
-    (λ q. let e = ap (coefficient (t ∷ x)) (same_from p t.partner q) ∙ here t x s.0 in let l = All-head small t x a in omega (arith, e, l))
+    (λ q. let e = ap (coefficient (t ∷ x)) ((bytes_eq-Decides p t.partner).0 q) ∙ here t x s.0 in let l = All-head small t x a in omega (arith, e, l))
     (λ q. let e = elsewhere t x p q in let ih = below_list m x p h s.1 (All-tail small t x a) in omega (arith, e, ih))
     (cases_Bool (bytes_eq p t.partner))
 

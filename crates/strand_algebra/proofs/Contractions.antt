@@ -1,13 +1,12 @@
 -- In any surroundings the product stands in for the stack: outer names are told alike, and as many parts go as the product
 -- closes loops. The names may be others, one to one.
---
--- Others cite: named, below_range, member_map, in_map, out_map, label_count-members, EndsAre-range, EndsAre-named, EndsAre-stack, Agree-names, label_count-names, map-named, es, ps, names, open_names, contract_agree, contract_count.
 use Rattle.std.proofs.Common.{◌≡◌, ℕ, zero, suc, ◌+◌, ◌-◌, ◌<◌, ◌≤◌, ◌≢◌, Bool, true, false, not, nat_lt, ◌||◌, ◌==◌, List, [], ◌∷◌, ◌++◌, map, length, slice_index, zip, refl, sym, ap, ap₂, ◌∙◌, arith, ⊎_elim}
 use Rattle.std.proofs.lemmas.List.Elements.{All-map}
 use Rattle.std.proofs.lemmas.Bool.{cases_Bool, eqb-true, or_left, or_right, or_cases}
 use Rattle.std.proofs.lemmas.Bool.Decides.{nat_tests}
 use Rattle.std.specs.List.{range_with_len, AllPass}
 use Rattle.std.specs.Set.{is_member}
+use Rattle.list_lemmas.proofs.Ranges.{All-range, is_member-range}
 use Rattle.graph_parts.proofs.Agreement.{eqb_from_iff, label_count-agree, to_All}
 use Rattle.graph_parts.proofs.Counting.{label_after-append, is_member-map, Agree-after}
 use Rattle.graph_parts.proofs.Distinct.{is_member-append, distinct_count-le_from_within}
@@ -20,7 +19,7 @@ use Rattle.graph_parts.specs.Patterns.{label_closed, label_pattern}
 use Rattle.graph_parts.specs.Renaming.{renamed, IsOneToOne}
 use Rattle.strand_algebra.proofs.LabelProducts.{label_parts, pairs, label_stack, outer, label_product, label_loops, IsPairingOf}
 use Rattle.strand_algebra.proofs.Matchings.{Matches-pairs}
-use Rattle.strand_algebra.proofs.Stacks.{below_is, is_below, All-range, Contains-range, is_member-range, Matches-product, IsPairingOf-product, inner, inner_outer}
+use Rattle.strand_algebra.proofs.Stacks.{below_is, is_below, Contains-range, Matches-product, IsPairingOf-product, inner, inner_outer}
 use Rattle.strand_algebra.specs.StrandPairings.{seams}
 
 -- the pairs of a pairing by any names

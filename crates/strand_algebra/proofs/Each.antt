@@ -1,6 +1,4 @@
 -- A fact on each element of a list, by recursion, through maps and lists of pieces.
---
--- Others cite: Each-weaker, Each-append, Each-map, Each-flat_map, Each-both, Each-range, Each-from_map, every.
 use Rattle.std.proofs.Common.{ℕ, zero, suc, ◌+◌, ◌<◌, ◌≤◌, List, [], ◌∷◌, ◌++◌, map, arith}
 use Rattle.std.specs.List.{flat_map, range_with_len, AllByRecursion}
 

@@ -1,6 +1,4 @@
 -- The laws of elements.
---
--- Others cite: collected_element, element_collected, same_mod, collected_coefficient, alike_trans, alike_sym, multiply_assoc, identity_above, identity_below.
 use Rattle.std.proofs.Common.{◌≡◌, ℕ, ◌%◌, ◌<◌, List, [], ◌∷◌, pos, sym, ◌∙◌, All, mod-eq_of_lt}
 use Rattle.std.proofs.lemmas.List.Elements.{All-head, All-tail}
 use Rattle.ring_identities.specs.Residues.{residue, Congruent}

@@ -1,7 +1,5 @@
 -- Points exchanged between bottom and top: products turn about, and loops stay. Top for bottom is one such exchange, half a
 -- turn another.
---
--- Others cite: IsExchange, mirror_exchange, half_exchange, turned_at, IsPairingOf-turned, turned_twice, product_turned, loops_turned.
 use Rattle.std.proofs.Common.{◌≡◌, ℕ, ◌+◌, ◌-◌, ◌<◌, ◌≤◌, true, false, cond, nat_lt, ◌==◌, if◌then◌else◌, List, ◌++◌, map, slice_index, refl, sym, ap, ap₂, ◌∙◌, arith, All, ⊎_elim}
 use Rattle.std.proofs.lemmas.List.Elements.{All-append, All-map}
 use Rattle.std.proofs.lemmas.Bool.{cases_Bool, eqb-true, eq-eqb, or_right}
@@ -9,6 +7,8 @@ use Rattle.std.proofs.lemmas.Bool.Decides.{nat_tests}
 use Rattle.std.proofs.lemmas.List.FromFn.{length-map-range_with_len, get_or-map-range_with_len}
 use Rattle.std.specs.List.{range_with_len}
 use Rattle.std.specs.Set.{is_member, distinct_count}
+use Rattle.graph_parts.proofs.Through.{keeps_Joined}
+use Rattle.list_lemmas.proofs.Ranges.{All-range, is_member-range}
 use Rattle.graph_parts.proofs.Agreement.{eqb_from_iff, to_All, label_count-agree}
 use Rattle.graph_parts.proofs.Counting.{is_member-map}
 use Rattle.graph_parts.proofs.Renaming.{map_map}
@@ -16,9 +16,8 @@ use Rattle.graph_parts.proofs.Walks.{Joined-from_labels}
 use Rattle.graph_parts.specs.Labels.{label_of, label_count}
 use Rattle.strand_algebra.proofs.Contractions.{below_range, in_map, out_map, member_map, label_count-members}
 use Rattle.strand_algebra.proofs.LabelProducts.{pairs, label_stack, outer, label_product, label_loops, IsPairingOf}
-use Rattle.strand_algebra.proofs.Stacks.{not_below, outer_below, below_is, is_below, is_member-range, All-range, All-pairs, Matches-product, IsPairingOf-product}
+use Rattle.strand_algebra.proofs.Stacks.{not_below, outer_below, below_is, is_below, All-pairs, Matches-product, IsPairingOf-product}
 use Rattle.strand_algebra.proofs.StraightStrands.{same_list, product_is, low_edge, high_edge, seam_edge}
-use Rattle.strand_algebra.proofs.Walking.{keeps_Joined}
 use Rattle.strand_algebra.specs.StrandPairings.{seams, exchanged}
 
 -- An exchange of the points with themselves, of bottom with top, that keeps strands.

@@ -5,8 +5,6 @@
 --     AreAlike m x y             equal modulo m for every worth
 --     formal_multiply, ..        the operations of elements, with nothing collected
 --     formal_projector d y n     f^(n+1) by Wenzl's recursion, where y k is the inverse of Delta_k
---
--- Others cite: Sum, total, AreAlike, formal_add, formal_scale, formal_multiply, formal_close, formal_identity, formal_hook, formal_beside, formal_projector.
 use Rattle.std.proofs.Common.{ℕ, zero, suc, ◌+◌, cond, List, [], ◌∷◌, ◌++◌, map, ℤ, pos, ◌+ℤ◌, ◌*ℤ◌, neg_ℤ}
 use Rattle.std.specs.List.{flat_map}
 use Rattle.std.specs.Str.{bytes_eq}

@@ -3,16 +3,17 @@
 --
 --     glued_name n x      the name in the gluing of a point of the stack
 --
--- Others cite: above_name, glued_name, left_at, left_length, glued_product, glued_closure.
-use Rattle.std.proofs.Common.{◌≡◌, ℕ, ◌+◌, ◌-◌, ◌<◌, ◌≤◌, true, false, ◌==◌, nat_lt, if◌then◌else◌, List, [], ◌++◌, map, length, length-append, slice_index, zip, refl, sym, ap, ap₂, ◌∙◌, arith, All, ⊎_elim}
+use Rattle.std.proofs.Common.{◌≡◌, ℕ, ◌+◌, ◌-◌, ◌<◌, ◌≤◌, true, false, ◌==◌, nat_lt, if◌then◌else◌, List, [], ◌++◌, map, length, length-append, slice_index, zip, refl, sym, ap, ap₂, ◌∙◌, arith, subst, All, ⊎_elim}
 use Rattle.std.specs.List.{range_with_len, AllPass}
 use Rattle.std.specs.Set.{is_member, distinct_count}
-use Rattle.std.proofs.lemmas.Bool.{cases_Bool, eqb-true, eq-eqb}
+use Rattle.std.proofs.lemmas.Bool.{cases_Bool, eqb-true, eq-eqb, or_right}
 use Rattle.std.proofs.lemmas.Bool.Decides.{nat_tests}
 use Rattle.std.proofs.lemmas.List.{get_or_append_left, get_or-append_right, get_or-map, length-map}
 use Rattle.std.proofs.lemmas.List.Elements.{All-append, All-map, Contains-append_left, Contains-append_right}
 use Rattle.std.proofs.lemmas.List.FromFn.{fill_by_all, length-map-range_with_len, get_or-map-range_with_len, length-range_with_len, get_or-range_with_len}
 use Rattle.std.proofs.lemmas.Slice.Zip.{get_or-zip, length-zip}
+use Rattle.graph_parts.proofs.Through.{keeps_Joined}
+use Rattle.list_lemmas.proofs.Ranges.{All-range, is_member-range}
 use Rattle.graph_parts.specs.Ends.{AreAmong}
 use Rattle.graph_parts.specs.Labels.{label_of, label_count}
 use Rattle.graph_parts.specs.Parts.{part_count}
@@ -30,19 +31,14 @@ use Rattle.arc_gluing.specs.Mates.{IsPairedLabels}
 use Rattle.arc_gluing.specs.Pairings.{pair_edges, partners_of}
 use Rattle.arc_gluing.proofs.ByParts.{partners_of-labels}
 use Rattle.arc_gluing.proofs.Places.{AreOnce, label_partners-is}
-use Rattle.strand_algebra.specs.GluedProducts.{below_names, above_names, left_names, glued_pairs, GluedProductLaw, GluedClosureLaw}
+use Rattle.strand_algebra.specs.GluedProducts.{above_name, below_names, above_names, left_names, glued_pairs, GluedProductLaw, GluedClosureLaw}
 use Rattle.strand_algebra.specs.StrandPairings.{seams, stack_names, straight, product, product_loops, closure_loops}
 use Rattle.strand_algebra.proofs.ByLabels.{chosen, IsPairingOf-from_points, IsPairingOn-from_points, pair_edges-pairs, product-labels, product_loops-labels, closure_loops-labels}
 use Rattle.strand_algebra.proofs.Contractions.{named, EndsAre-named, below_range, out_map, in_map}
 use Rattle.strand_algebra.proofs.LabelProducts.{closed_edges, IsPairingOf, pairs, label_stack, outer, label_product}
-use Rattle.strand_algebra.proofs.Stacks.{outer_below, or_second, is_below, All-range, Contains-pairs, Contains-range, is_member-range, Matches-product, IsPairingOf-product}
+use Rattle.strand_algebra.proofs.Stacks.{outer_below, is_below, Contains-pairs, Contains-range, Matches-product, IsPairingOf-product}
 use Rattle.strand_algebra.proofs.StraightStrands.{low_edge, high_edge, seam_edge, IsPairingOf-straight, straight_at}
-use Rattle.strand_algebra.proofs.Walking.{keeps_Joined}
 use Rattle.strand_algebra.proofs.WiderClosures.{pair_edge, closing_edge}
-
--- the name of point i of p
-abbrev pub above_name : ℕ → ℕ → ℕ
-above_name n i = if nat_lt i n then n + n - 1 - i else n + i
 
 -- the name in the gluing of a point of the stack
 abbrev pub glued_name : ℕ → ℕ → ℕ
@@ -70,12 +66,6 @@ stacked_low n y b = grind (arith, nat_tests)
 stacked_top : (n i : ℕ) → n ≤ i → stacked_name n (n + i) ≡ n + n + i
 stacked_top n i b = grind (arith, nat_tests)
 
-above_below : (n i : ℕ) → i < n + n → above_name n i < n + n + n
-above_below n i b = grind (arith, nat_tests)
-
-above_apart : (n i j : ℕ) → i < n + n → j < n + n → above_name n i ≡ above_name n j → i ≡ j
-above_apart n i j a b e = grind (arith, nat_tests, e)
-
 -- ---- the pairs by names
 pair_edges-named : (name : ℕ → ℕ) (size : ℕ) (p : List ℕ) → IsPairingOf size p → pair_edges (map name (range_with_len 0 size)) p ≡ named name p
 pair_edges-named name size p h =
@@ -91,10 +81,6 @@ pair_edges-named name size p h =
       get_or-map-range_with_len name 0 size i i 0 c (omega arith) t,
       (get_or-map (λ place. slice_index names place) p i 0 0 b ∙ get_or-map-range_with_len name 0 size (slice_index p i) (slice_index p i) 0 (h.stays i c) (omega arith)) t,
     )))
-
-Contains-named : (name : ℕ → ℕ) (size : ℕ) (p : List ℕ) (i : ℕ) → IsPairingOf size p → i < size → label_of (named name p) (name i) ≡ label_of (named name p) (name (slice_index p i))
-Contains-named name size p i h b =
-    labels-from_Joined (named name p) (along (Contains-range (λ k. (name k, name (slice_index p k))) 0 (length p) i (omega arith) (let s = h.length_is in omega (arith, s, b))))
 
 All-named : (P : ℕ × ℕ → Type 0) (name : ℕ → ℕ) (size : ℕ) (p : List ℕ) → IsPairingOf size p → ((i : ℕ) → i < size → P (name i, name (slice_index p i))) → All P (named name p)
 All-named P name size p hp h =
@@ -227,6 +213,9 @@ module _ (n : ℕ) (p q : List ℕ) (hp : IsPairingOf (n + n) p) (hq : IsPairing
       (EndsAre-named inside (above_name n) (n + n) p hp (λ i b.
       let m = is_member-append (below_names n) (above_names n) (above_name n i) in let r = in_map (above_name n) (n + n) i b in grind (arith, m, r)))
 
+  pub pairs_among : AreAmong (below_names n ++ above_names n) (glued_pairs n p q)
+  pairs_among = subst (AreAmong (below_names n ++ above_names n)) (sym glued_is) glued_among
+
   left_inside : AllPass (is_member ◌==◌ (below_names n ++ above_names n)) (left_names n)
   left_inside =
       to_All (is_member ◌==◌ (below_names n ++ above_names n)) (left_names n)
@@ -255,7 +244,7 @@ module _ (n : ℕ) (p q : List ℕ) (hp : IsPairingOf (n + n) p) (hq : IsPairing
             let d : slice_index (label_product n p q) i < n + n = own.stays i c in
             let t = tells.tells i (slice_index (label_product n p q) i) (is_below (n + n) i c) (is_below (n + n) _ d) in
             ap (label_of G) (left_at n (slice_index (label_product n p q) i) d)
-            ∙ sym (glued_joined (outer n i) (outer n (slice_index (label_product n p q) i)) (eqb-true _ _ (t ∙ or_second (i == slice_index (label_product n p q) i) _ (eq-eqb _ _ refl))))
+            ∙ sym (glued_joined (outer n i) (outer n (slice_index (label_product n p q) i)) (eqb-true _ _ (t ∙ or_right (i == slice_index (label_product n p q) i) _ (eq-eqb _ _ refl))))
             ∙ sym (ap (label_of G) (left_at n i c));
         only = λ i j a b e d.
             let ci : i < n + n = omega (arith, l, a) in

@@ -1,7 +1,5 @@
 -- The hooks of at most eight strands have the relations of Temperley and Lieb, by the tests of HookTests. Hooks are counted from
 -- 0 here: hook i has i strands on its left.
---
--- Others cite: hooked_at, IsPairingOf-hooked, at_range, place, hooks, AreHooks-hooks.
 use Rattle.std.proofs.Common.{◌≡◌, ℕ, suc, ◌+◌, ◌-◌, ◌<◌, ◌≤◌, ◌≢◌, min, Bool, true, ◌&&◌, ◌==◌, List, [], ◌∷◌, slice_index, ℤ, pos, ◌+ℤ◌, ◌*ℤ◌, refl, sym, ap, ap₂, ◌∙◌, arith}
 use Rattle.std.specs.List.{range_with_len, list_all}
 use Rattle.std.specs.Str.{bytes_eq}
@@ -10,6 +8,8 @@ use Rattle.std.proofs.lemmas.Bool.Decides.{nat_tests}
 use Rattle.std.proofs.lemmas.List.Sums.{AllPass-from_list_all}
 use Rattle.std.proofs.lemmas.List.FromFn.{length-map-range_with_len, get_or-map-range_with_len}
 use Rattle.std.proofs.lemmas.Slice.Eq.{bytes_eq-Decides}
+use Rattle.list_lemmas.proofs.Bools.{and_first, and_second}
+use Rattle.list_lemmas.proofs.Ranges.{is_member-range}
 use Rattle.graph_parts.proofs.Agreement.{from_All}
 use Rattle.ring_identities.proofs.Congruences.{congruent_eq, congruent_trans}
 use Rattle.ring_identities.proofs.Identities.{reads, by_ring}
@@ -18,9 +18,7 @@ use Rattle.strand_algebra.proofs.Algebras.{AreHooks}
 use Rattle.strand_algebra.proofs.FormalSums.{Sum, formal_scale, formal_multiply, formal_hook, AreAlike}
 use Rattle.strand_algebra.proofs.HookTests.{gives, squares, gives_first, neighbours, apart, square_tests, neighbour_tests, apart_tests}
 use Rattle.strand_algebra.proofs.LabelProducts.{label_product, label_loops, hooked_behind, hooked_behind_point, IsPairingOf}
-use Rattle.strand_algebra.proofs.Matchings.{both_first, both_second}
 use Rattle.strand_algebra.proofs.PairingAlgebra.{Element, pairings}
-use Rattle.strand_algebra.proofs.Stacks.{is_member-range}
 
 -- ---- a hook is a pairing
 point_stays : (n i j : ℕ) → i + 1 < n → j < n + n → hooked_behind_point n i j < n + n
@@ -68,12 +66,8 @@ module _ (m n : ℕ) (d : ℤ) where
       (ap₂ (λ i r. pos 1 *ℤ (pos 1 *ℤ power d i) *ℤ w r +ℤ pos 0) f e
       ∙ sym (ap (λ i. pos 1 *ℤ (pos 1 *ℤ power d i) *ℤ w (label_product n s t) +ℤ pos 0) g))
 
--- what the tests say
-from_bytes : (xs ys : List ℕ) → bytes_eq xs ys ≡ true → xs ≡ ys
-from_bytes xs ys h = grind (arith, bytes_eq-Decides xs ys, h)
-
 from_gives : (n : ℕ) (p q s : List ℕ) (k : ℕ) → gives n p q s k ≡ true → (label_product n p q ≡ s) × (label_loops n p q ≡ k)
-from_gives n p q s k h = (from_bytes (label_product n p q) s (both_first (bytes_eq (label_product n p q) s) (label_loops n p q == k) h), eqb-true (label_loops n p q) k (both_second (bytes_eq (label_product n p q) s) (label_loops n p q == k) h))
+from_gives n p q s k h = ((bytes_eq-Decides (label_product n p q) s).0 (and_first (bytes_eq (label_product n p q) s) (label_loops n p q == k) h), eqb-true (label_loops n p q) k (and_second (bytes_eq (label_product n p q) s) (label_loops n p q == k) h))
 
 pub at_range : (p : ℕ → Bool) (a k i : ℕ) → list_all p (range_with_len a k) ≡ true → a ≤ i → i < a + k → p i ≡ true
 at_range p a k i h x y = from_All p (range_with_len a k) (AllPass-from_list_all p (range_with_len a k) h) i (is_member-range a k i x y)
@@ -86,7 +80,7 @@ square_of n i b h =
 pub neighbour_of : (n i : ℕ) → n < 9 → i + 2 < n → (gives_first n i (i + 1) ≡ true) × (gives_first n (i + 1) i ≡ true)
 neighbour_of n i b h =
     let t = at_range (λ j. gives_first n j (j + 1) && gives_first n (j + 1) j) 0 (n - 2) i (at_range neighbours 0 9 n neighbour_tests (omega arith) (omega arith)) (omega arith) (omega arith) in
-    (both_first (gives_first n i (i + 1)) (gives_first n (i + 1) i) t, both_second (gives_first n i (i + 1)) (gives_first n (i + 1) i) t)
+    (and_first (gives_first n i (i + 1)) (gives_first n (i + 1) i) t, and_second (gives_first n i (i + 1)) (gives_first n (i + 1) i) t)
 
 pub apart_of : (n i j : ℕ) → n < 9 → i + 1 < j → j + 1 < n →
     (gives n (hooked_behind n j) (hooked_behind n i) (label_product n (hooked_behind n i) (hooked_behind n j)) 0 && label_loops n (hooked_behind n i) (hooked_behind n j) == 0) ≡ true
@@ -107,9 +101,9 @@ hooks n two i = record { sum = formal_hook n (place n i); valid = (IsPairingOf-h
 
 chain_of : (m n : ℕ) (d : ℤ) (i j : ℕ) → gives_first n i j ≡ true → AreAlike m (formal_multiply n d (formal_multiply n d (formal_hook n i) (formal_hook n j)) (formal_hook n i)) (formal_hook n i)
 chain_of m n d i j h =
-    let g = from_gives n (label_product n (hooked_behind n i) (hooked_behind n j)) (hooked_behind n i) (hooked_behind n i) 0 (both_second (label_loops n (hooked_behind n i) (hooked_behind n j) == 0) (gives n (label_product n (hooked_behind n i) (hooked_behind n j)) (hooked_behind n i) (hooked_behind n i) 0) h) in
+    let g = from_gives n (label_product n (hooked_behind n i) (hooked_behind n j)) (hooked_behind n i) (hooked_behind n i) 0 (and_second (label_loops n (hooked_behind n i) (hooked_behind n j) == 0) (gives n (label_product n (hooked_behind n i) (hooked_behind n j)) (hooked_behind n i) (hooked_behind n i) 0) h) in
     single_chain m n d (hooked_behind n i) (hooked_behind n j) (hooked_behind n i) (hooked_behind n i)
-    (eqb-true (label_loops n (hooked_behind n i) (hooked_behind n j)) 0 (both_first (label_loops n (hooked_behind n i) (hooked_behind n j) == 0) (gives n (label_product n (hooked_behind n i) (hooked_behind n j)) (hooked_behind n i) (hooked_behind n i) 0) h)) g.0 g.1
+    (eqb-true (label_loops n (hooked_behind n i) (hooked_behind n j)) 0 (and_first (label_loops n (hooked_behind n i) (hooked_behind n j) == 0) (gives n (label_product n (hooked_behind n i) (hooked_behind n j)) (hooked_behind n i) (hooked_behind n i) 0) h)) g.0 g.1
 
 -- THE HOOKS OF AT MOST EIGHT STRANDS
 pub AreHooks-hooks : (m n : ℕ) (d : ℤ) (two : 1 < n) → n < 9 → AreHooks m (pairings m n d) d (n - 1) (hooks n two)
@@ -128,6 +122,6 @@ AreHooks-hooks m n d two b = record {
   apart = λ i j h k.
       let e : place n i ≡ i = omega arith in let f : place n j ≡ j = omega arith in
       let t = apart_of n i j b (omega arith) (omega arith) in
-      let g = from_gives n (hooked_behind n j) (hooked_behind n i) (label_product n (hooked_behind n i) (hooked_behind n j)) 0 (both_first _ (label_loops n (hooked_behind n i) (hooked_behind n j) == 0) t) in
-      rw (e, f) (single_exchange m n d (hooked_behind n j) (hooked_behind n i) (hooked_behind n i) (hooked_behind n j) g.0 g.1 (eqb-true (label_loops n (hooked_behind n i) (hooked_behind n j)) 0 (both_second _ (label_loops n (hooked_behind n i) (hooked_behind n j) == 0) t)));
+      let g = from_gives n (hooked_behind n j) (hooked_behind n i) (label_product n (hooked_behind n i) (hooked_behind n j)) 0 (and_first _ (label_loops n (hooked_behind n i) (hooked_behind n j) == 0) t) in
+      rw (e, f) (single_exchange m n d (hooked_behind n j) (hooked_behind n i) (hooked_behind n i) (hooked_behind n j) g.0 g.1 (eqb-true (label_loops n (hooked_behind n i) (hooked_behind n j)) 0 (and_second _ (label_loops n (hooked_behind n i) (hooked_behind n j) == 0) t)));
 }

@@ -1,6 +1,4 @@
 -- The relations of hooks, for at most eight strands, by computing products by labels.
---
--- Others cite: gives, squares, gives_first, neighbours, apart, square_tests, neighbour_tests, apart_tests.
 use Rattle.std.proofs.Common.{◌≡◌, ℕ, ◌+◌, ◌-◌, Bool, true, ◌&&◌, ◌==◌, List, refl}
 use Rattle.std.specs.List.{range_with_len, list_all}
 use Rattle.std.specs.Str.{bytes_eq}

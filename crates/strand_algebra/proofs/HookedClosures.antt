@@ -1,13 +1,13 @@
 -- A hook at the last two strands, on a pairing with one more strand, closes that strand: the ring of both is the closure of the
 -- pairing.
---
--- Others cite: hook_closed.
 use Rattle.std.proofs.Common.{◌≡◌, ℕ, ◌+◌, ◌-◌, ◌<◌, ◌≤◌, min, true, false, nat_lt, ◌||◌, ◌==◌, if◌then◌else◌, List, ◌++◌, map, slice_index, refl, sym, ap, ◌∙◌, arith, All, ⊎_elim}
 use Rattle.std.proofs.lemmas.List.Elements.{All-append, All-map, Contains-append_left, Contains-append_right}
 use Rattle.std.proofs.lemmas.Bool.{cases_Bool, eqb-true}
 use Rattle.std.proofs.lemmas.Bool.Decides.{nat_tests}
 use Rattle.std.specs.List.{range_with_len}
 use Rattle.std.specs.Set.{is_member, distinct_count}
+use Rattle.graph_parts.proofs.Through.{keeps_Joined}
+use Rattle.list_lemmas.proofs.Ranges.{All-range, is_member-range}
 use Rattle.graph_parts.proofs.Agreement.{eqb_from_iff, to_All, label_count-agree}
 use Rattle.graph_parts.proofs.Renaming.{map_map}
 use Rattle.graph_parts.proofs.Walks.{Joined-from_labels, labels-from_Joined}
@@ -17,11 +17,11 @@ use Rattle.strand_algebra.proofs.ClosedStacks.{closing, ring, ring_count}
 use Rattle.strand_algebra.proofs.Contractions.{below_range, in_map, out_map}
 use Rattle.strand_algebra.proofs.HookRelations.{hooked_at, IsPairingOf-hooked}
 use Rattle.strand_algebra.proofs.LabelProducts.{closed_edges, hooked_behind_point, pairs, label_stack, label_product, label_loops, label_closed_loops, hooked_behind, IsPairingOf}
-use Rattle.strand_algebra.proofs.Stacks.{not_below, below_is, is_member-range, All-range, All-pairs, Contains-range}
+use Rattle.strand_algebra.proofs.Stacks.{not_below, below_is, All-pairs, Contains-range}
 use Rattle.strand_algebra.proofs.StraightStrands.{low_edge, high_edge, seam_edge}
-use Rattle.strand_algebra.proofs.Walking.{Joined-wider, keeps_Joined}
+use Rattle.strand_algebra.proofs.Walking.{Joined-wider}
 use Rattle.strand_algebra.proofs.WiderClosures.{pair_edge, closing_edge}
-use Rattle.strand_algebra.proofs.WiderStacks.{by_points, moved_below, wide_old, wide_new, wide_next, IsPairingOf-widened, label_count-like}
+use Rattle.strand_algebra.proofs.WiderStacks.{by_points, moved_below, wide_old, wide_new, wide_next, IsPairingOf-widened, label_count-like, less_than, moved_close, moved_low}
 use Rattle.strand_algebra.specs.StrandPairings.{seams, moved, widened}
 
 -- n + 1 strands are widened to n + 2; the last hook joins the strands n and n + 1
@@ -81,15 +81,6 @@ hook_last n = grind (arith, nat_tests)
 
 hook_top : (n : ℕ) → hooked_behind_point (n + 1 + 1) n (size n - 1 - n) ≡ size n - 1 - (n + 1)
 hook_top n = grind (arith, nat_tests)
-
-less_than : (n i : ℕ) → (i == n) ≡ false → i < n + 1 → i < n
-less_than n i d b = grind (arith, nat_tests, d, b)
-
-moved_low : (n i : ℕ) → i < n → moved n i ≡ i
-moved_low n i b = grind (arith, nat_tests)
-
-moved_close : (n i : ℕ) → i < n → moved n (n + n - 1 - i) ≡ n + 1 + (n + 1) - 1 - i
-moved_close n i b = grind (arith, nat_tests)
 
 module _ (n : ℕ) (r : List ℕ) (hr : IsPairingOf (n + 1 + (n + 1)) r) where
   abbrev P : List ℕ

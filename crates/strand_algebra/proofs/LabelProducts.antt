@@ -11,8 +11,6 @@
 --     closed_edges n p          the pairs, and the closing edges
 --     label_closed_loops n p    how many labels there are in the closure
 --     hooked_behind n i         the hook with i strands on its left
---
--- Others cite: IsPairingOf, label_parts, pairs, label_stack, outer, other, label_product, label_loops, closed_edges, label_closed_loops, hooked_behind_point, hooked_behind.
 use Rattle.std.proofs.Common.{◌≡◌, ◌≢◌, ℕ, ◌+◌, ◌-◌, ◌<◌, ◌==◌, nat_lt, ◌&&◌, not, if◌then◌else◌, List, [], ◌∷◌, ◌++◌, map, length, slice_index}
 use Rattle.std.specs.List.{range_with_len}
 use Rattle.graph_parts.specs.Labels.{label_of, label_count}

@@ -34,8 +34,7 @@ pub mod Collecting
 pub mod Operations
 pub mod ElementLaws
 pub mod ProjectorLaws
-pub mod OneMoreTerm
 pub mod Gluings
 pub mod StrandSeams
-pub mod Counts
+pub mod GluedPairings
 mod Examples

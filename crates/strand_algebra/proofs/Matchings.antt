@@ -2,16 +2,15 @@
 -- partners, and the labels tell that. So no degrees are counted and nothing is walked.
 --
 --     Matches inside l m       m exchanges the names inside by pairs, and the labels l tell exactly these pairs
---
--- Others cite: Matches, cut, without, both_first, both_second, Matches-cut, Matches-same, Matches-pairs, Matches-partner.
 use Rattle.std.proofs.Common.{◌≡◌, ℕ, Bool, true, false, not, nat_lt, ◌&&◌, ◌||◌, ◌==◌, if◌then◌else◌, List, sym, ap, ◌∙◌, arith, All, Contains}
 use Rattle.std.proofs.lemmas.List.Elements.{All-weaker}
 use Rattle.std.proofs.lemmas.Bool.Decides.{nat_tests}
+use Rattle.list_lemmas.proofs.Bools.{and_first, and_second}
+use Rattle.graph_parts.proofs.Through.{keeps_Joined}
 use Rattle.graph_parts.proofs.Agreement.{eqb_from_iff}
 use Rattle.graph_parts.proofs.Walks.{Joined-from_labels, labels-from_Joined}
 use Rattle.graph_parts.specs.Labels.{relabel, label_of}
 use Rattle.graph_parts.specs.Walks.{along}
-use Rattle.strand_algebra.proofs.Walking.{keeps_Joined}
 
 -- m exchanges the names inside by pairs, and l tells these pairs.
 pub record Matches (inside : ℕ → Bool) (l m : ℕ → ℕ) : Type 0 where
@@ -26,12 +25,6 @@ cut m a b x = if m x == a then m b else (if m x == b then m a else m x)
 
 abbrev pub without : (ℕ → Bool) → ℕ → ℕ → ℕ → Bool
 without inside a b x = inside x && (not (x == a) && not (x == b))
-
-pub both_first : (x y : Bool) → (x && y) ≡ true → x ≡ true
-both_first x y h = grind (arith, h)
-
-pub both_second : (x y : Bool) → (x && y) ≡ true → y ≡ true
-both_second x y h = grind (arith, h)
 
 from_not : (b : Bool) → not b ≡ true → b ≡ false
 from_not b h = grind (arith, h)
@@ -68,13 +61,13 @@ module _ (inside : ℕ → Bool) (l m : ℕ → ℕ) (h : Matches inside l m) wh
 
 module _ (inside : ℕ → Bool) (l m : ℕ → ℕ) (a b : ℕ) (p : inside a ≡ true) (q : inside b ≡ true) (d : (a == b) ≡ false) (h : Matches inside l m) where
   within : (u : ℕ) → without inside a b u ≡ true → inside u ≡ true
-  within u i = both_first (inside u) _ i
+  within u i = and_first (inside u) _ i
 
   not_a : (u : ℕ) → without inside a b u ≡ true → (u == a) ≡ false
-  not_a u i = from_not (u == a) (both_first (not (u == a)) _ (both_second (inside u) _ i))
+  not_a u i = from_not (u == a) (and_first (not (u == a)) _ (and_second (inside u) _ i))
 
   not_b : (u : ℕ) → without inside a b u ≡ true → (u == b) ≡ false
-  not_b u i = from_not (u == b) (both_second (not (u == a)) _ (both_second (inside u) _ i))
+  not_b u i = from_not (u == b) (and_second (not (u == a)) _ (and_second (inside u) _ i))
 
   pub Matches-cut : Matches (without inside a b) (relabel l (a, b)) (cut m a b)
   Matches-cut = record {

@@ -1,6 +1,4 @@
 -- A noncrossing pairing is one within point 0 and its partner and one behind them: so two such make one, and each arises so.
---
--- Others cite: in_range, IsPairingOf-nested, IsNoncrossing-nested, inner_part, outer_part, split.
 use Rattle.std.proofs.Common.{◌≡◌, ◌≢◌, ℕ, zero, suc, ◌+◌, ◌-◌, ◌<◌, nat_lt, ◌==◌, List, ◌∷◌, map, length, length-append, slice_index, sym, ap, ◌∙◌, arith, ⊎_elim, subst}
 use Rattle.std.specs.List.{range_with_len}
 use Rattle.std.proofs.lemmas.Bool.{cases_Bool, eqb-true}

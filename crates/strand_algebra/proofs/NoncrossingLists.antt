@@ -1,6 +1,4 @@
 -- The list of noncrossing pairings has each of them once, in dictionary order.
---
--- Others cite: IsNoncrossingOf, each_noncrossing, all_noncrossing, order_same, noncrossing_sorted.
 use Rattle.std.proofs.Common.{◌≡◌, ℕ, zero, suc, ◌+◌, ◌-◌, ◌<◌, ◌≤◌, List, [], ◌∷◌, ◌++◌, map, length, slice_index, refl, sym, ap, ap₂, ◌∙◌, arith, subst, Contains, Ordering, Less, Equal, Greater}
 use Rattle.std.specs.List.{flat_map, range_with_len, AllByRecursion}
 use Rattle.std.specs.Bool.{⊤}

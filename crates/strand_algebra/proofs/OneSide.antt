@@ -1,11 +1,10 @@
 -- One side of associativity: a stack whose upper or lower part is a product, against the stack of three.
---
--- Others cite: map_range, named_same, side_tells, side_count.
 use Rattle.std.proofs.Common.{◌≡◌, ℕ, zero, suc, ◌+◌, ◌-◌, ◌<◌, ◌≤◌, true, ◌==◌, List, ◌∷◌, ◌++◌, map, length, slice_index, refl, sym, ap, ap₂, ◌∙◌, arith}
 use Rattle.std.proofs.lemmas.List.Elements.{All-map}
 use Rattle.std.proofs.lemmas.Bool.Decides.{nat_tests}
 use Rattle.std.specs.List.{range_with_len}
 use Rattle.std.specs.Set.{is_member}
+use Rattle.list_lemmas.proofs.Ranges.{is_member-range}
 use Rattle.graph_parts.proofs.Agreement.{label_count-agree, to_All}
 use Rattle.graph_parts.proofs.Counting.{is_member-map}
 use Rattle.graph_parts.proofs.Distinct.{distinct_count-le_from_within}
@@ -16,7 +15,6 @@ use Rattle.graph_parts.specs.Labels.{label_of, label_count, Agree}
 use Rattle.graph_parts.specs.Renaming.{renamed}
 use Rattle.strand_algebra.proofs.Contractions.{named, out_map, label_count-members, Agree-names, label_count-names, es, ps, names, open_names, contract_agree, contract_count}
 use Rattle.strand_algebra.proofs.LabelProducts.{label_parts, outer, label_loops, IsPairingOf}
-use Rattle.strand_algebra.proofs.Stacks.{is_member-range}
 
 pub map_range : {X : Type 0} (f g : ℕ → X) (a k : ℕ) → ((i : ℕ) → a ≤ i → i < a + k → f i ≡ g i) → map f (range_with_len a k) ≡ map g (range_with_len a k)
 map_range f g a zero h = refl

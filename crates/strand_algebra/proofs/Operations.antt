@@ -1,6 +1,4 @@
 -- The operations of elements are alike to those of formal sums, and their results are elements.
---
--- Others cite: pairings_of, identity_alike, hook_alike, add_alike, scaled_alike, multiply_alike, beside_alike, close_alike, IsElement-identity, IsElement-hook, IsElement-add, IsElement-scaled, IsElement-multiply, IsElement-beside.
 use Rattle.std.proofs.Common.{◌≡◌, ℕ, ◌+◌, ◌-◌, ◌*◌, ◌^◌, ◌<◌, List, [], ◌∷◌, ◌++◌, map, ℤ, pos, ◌+ℤ◌, ◌*ℤ◌, refl, sym, ap, ap₂, ◌∙◌, arith}
 use Rattle.std.proofs.Math.IntN.{pos-*ℤ-pos}
 use Rattle.std.specs.List.{AllByRecursion, flat_map, sum_by}

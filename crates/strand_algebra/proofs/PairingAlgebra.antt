@@ -1,7 +1,6 @@
 -- The formal sums of pairings are an algebra up to being alike: each law is an equation of totals.
---
--- Others cite: Element, AreTerms-scale, AreTerms-multiply, times_alike, assoc_alike, unit_alike, alike_unit, plus_same, by_same, pairings.
 use Rattle.std.proofs.Common.{◌≡◌, ℕ, ◌+◌, List, [], ◌∷◌, map, ℤ, pos, ◌+ℤ◌, ◌*ℤ◌, refl, sym, ap, ap₂, ◌∙◌}
+use Rattle.ring_identities.proofs.PowerLemmas.{power-add}
 use Rattle.ring_identities.proofs.Congruences.{congruent_refl, congruent_plus, congruent_times, congruent_eq, congruent_sym, congruent_trans}
 use Rattle.ring_identities.proofs.Identities.{reads, by_ring}
 use Rattle.ring_identities.specs.Powers.{power}
@@ -12,7 +11,7 @@ use Rattle.strand_algebra.proofs.FormalSums.{Sum, total, formal_add, formal_scal
 use Rattle.strand_algebra.proofs.LabelProducts.{label_product, label_loops, IsPairingOf}
 use Rattle.strand_algebra.proofs.Stacks.{IsPairingOf-product}
 use Rattle.strand_algebra.proofs.StraightStrands.{IsPairingOf-straight, straight_product, straight_loops, product_straight, loops_straight}
-use Rattle.strand_algebra.proofs.Totals.{AreTerms, AreTerms-append, total-append, total-scale, total-times, total-plus, total-nothing, total_same, total_congruent, within, total-multiply, power-add}
+use Rattle.strand_algebra.proofs.Totals.{AreTerms, AreTerms-append, total-append, total-scale, total-times, total-plus, total-nothing, total_same, total_congruent, within, total-multiply}
 use Rattle.strand_algebra.specs.StrandPairings.{straight}
 
 pub record Element (n : ℕ) : Type 0 where

@@ -1,6 +1,4 @@
 -- The laws of pairings on strands: what is proved by labels, for the definitions by parts.
---
--- Others cite: pairing_of, IsNoncrossingOn-from_points, product_of_pairings, product_of_noncrossing, associative, keeps_both_sides, straight_noncrossing, hooked_noncrossing, widened_noncrossing, noncrossing_list.
 use Rattle.std.proofs.Common.{◌≡◌, ℕ, ◌+◌, ◌-◌, ◌<◌, List, [], ◌∷◌, slice_index, sym, ap, ap₂, ◌∙◌, arith, All}
 use Rattle.std.specs.List.{AllByRecursion}
 use Rattle.std.proofs.lemmas.Bool.Decides.{nat_tests}

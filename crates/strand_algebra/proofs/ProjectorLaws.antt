@@ -1,11 +1,10 @@
 -- The laws of projectors, for elements: each projector is alike to Wenzl's formal sum, for which the laws are proved.
---
--- Others cite: projector_element, one_projector, projector_found, hook_on_projector, projector_on_hook, square, closure_value, mirror, half_turn.
-use Rattle.std.proofs.Common.{false, if◌then◌else◌, ◌≡◌, ℕ, zero, suc, ◌+◌, ◌%◌, ◌==◌, ◌-◌, ◌<◌, ◌≤◌, Bool, true, cond, List, [], ◌∷◌, length, slice_index, ℤ, pos, ◌*ℤ◌, neg_ℤ, refl, sym, ap, ap₂, ◌∙◌, arith, subst, mod-eq_of_lt, mod-lt}
+use Rattle.std.proofs.Common.{false, if◌then◌else◌, ◌≡◌, ℕ, zero, suc, ◌+◌, ◌%◌, ◌==◌, ◌-◌, ◌<◌, ◌≤◌, true, cond, List, [], ◌∷◌, length, slice_index, ℤ, pos, ◌*ℤ◌, neg_ℤ, refl, sym, ap, ap₂, ◌∙◌, arith, subst, mod-eq_of_lt, mod-lt}
 use Rattle.std.specs.Str.{bytes_eq}
 use Rattle.std.proofs.lemmas.Bool.{eqb-true}
 use Rattle.std.proofs.lemmas.Bool.Decides.{nat_tests}
 use Rattle.std.proofs.lemmas.Slice.Eq.{bytes_eq-Decides}
+use Rattle.list_lemmas.proofs.Bools.{same_bool}
 use Rattle.ring_identities.specs.Powers.{power}
 use Rattle.ring_identities.specs.Residues.{residue, Congruent}
 use Rattle.ring_identities.proofs.Congruences.{congruent_refl, congruent_times, congruent_negative, congruent_eq, congruent_sym, congruent_trans, residue_congruent, natural_mod, same_residue, residue_small}
@@ -272,9 +271,6 @@ closure_value m delta n f h few x =
     ∙ same_residue h c
 
 -- ---- symmetries
-either_way : (b c : Bool) → (b ≡ true → c ≡ true) → (c ≡ true → b ≡ true) → b ≡ c
-either_way b c h k = grind (arith, h, k)
-
 module _ (n : ℕ) (t : ℕ → ℕ) (x : IsExchange n t) where
   moved_over : (p q : List ℕ) → IsPairingOf (n + n) p → p ≡ exchanged n t q → IsPairingOf (n + n) q → exchanged n t p ≡ q
   moved_over p q hp e hq = ap (exchanged n t) e ∙ turned_twice n t x q hq
@@ -282,7 +278,7 @@ module _ (n : ℕ) (t : ℕ → ℕ) (x : IsExchange n t) where
   only_at-exchanged : (p q : List ℕ) → IsPairingOf (n + n) p → IsPairingOf (n + n) q → only_at (exchanged n t p) q ≡ only_at p (exchanged n t q)
   only_at-exchanged p q hp hq =
       ap (λ b. cond b (pos 1) (pos 0))
-      (either_way (bytes_eq (exchanged n t p) q) (bytes_eq p (exchanged n t q))
+      (same_bool (bytes_eq (exchanged n t p) q) (bytes_eq p (exchanged n t q))
       (λ b. (bytes_eq-Decides p (exchanged n t q)).1 (sym (turned_twice n t x p hp) ∙ ap (exchanged n t) ((bytes_eq-Decides (exchanged n t p) q).0 b)))
       (λ b. (bytes_eq-Decides (exchanged n t p) q).1 (moved_over p q hp ((bytes_eq-Decides p (exchanged n t q)).0 b) hq)))
 

@@ -1,7 +1,5 @@
 -- Projectors on fewer strands, carried to more: one strand more is a map of algebras, so Wenzl's recursion on n strands is one
 -- in the algebra of more strands, and its laws are those of WenzlRecursion.
---
--- Others cite: total-beside, AreTerms-beside, beside_alike, beside_multiply, AreTerms-projector, family, AreProjectors-family, at_last, projector_square, hook_projector, projector_hook.
 use Rattle.std.proofs.Common.{◌≡◌, ℕ, zero, suc, ◌+◌, ◌-◌, ◌<◌, min, List, [], ◌∷◌, ◌++◌, slice_index, ℤ, pos, ◌+ℤ◌, ◌*ℤ◌, neg_ℤ, refl, sym, ap, ap₂, ◌∙◌, arith, subst}
 use Rattle.std.proofs.lemmas.Bool.Decides.{nat_tests}
 use Rattle.std.proofs.lemmas.List.{map-append}

@@ -1,14 +1,14 @@
 -- The product of two pairings is a pairing, and tells the outer points that lie in one part: the labels of both tell their
 -- pairs, and each seam joins two of these.
---
--- Others cite: All-range, Contains-range, is_member-range, is_open, one_more, open_up, open_down, open_apart, partner_in, All-pairs, Contains-pairs, Matches-two, stack_label, inner, or_second, outer_below, outer_open, outer_inner, inner_outer, Matches-outer, not_below, below_is, is_below, Matches-product, IsPairingOf-product.
-use Rattle.std.proofs.Common.{◌≡◌, ℕ, zero, suc, ◌+◌, ◌-◌, ◌<◌, ◌≤◌, ◌≢◌, Bool, true, false, nat_lt, nat_le, ◌&&◌, ◌||◌, ◌==◌, if◌then◌else◌, List, [], ◌∷◌, ◌++◌, map, length, slice_index, sym, ap, ap₂, ◌∙◌, arith, All, Contains, append_assoc, ⊎_elim}
-use Rattle.std.proofs.lemmas.List.Elements.{All-nil, All-cons, All-append, All-map, All-head, All-tail, Contains-append_left, Contains-append_right}
+use Rattle.std.proofs.Common.{◌≡◌, ℕ, zero, suc, ◌+◌, ◌-◌, ◌<◌, ◌≤◌, Bool, true, false, nat_lt, nat_le, ◌&&◌, ◌||◌, ◌==◌, if◌then◌else◌, List, [], ◌∷◌, ◌++◌, map, length, slice_index, sym, ap, ap₂, ◌∙◌, arith, All, Contains, append_assoc, ⊎_elim}
+use Rattle.std.proofs.lemmas.List.Elements.{All-append, All-map, All-head, All-tail, Contains-append_left, Contains-append_right}
 use Rattle.std.proofs.lemmas.Bool.{cases_Bool, eqb-true}
 use Rattle.std.proofs.lemmas.Bool.Decides.{nat_tests}
 use Rattle.std.proofs.lemmas.List.FromFn.{length-map-range_with_len, get_or-map-range_with_len}
 use Rattle.std.specs.List.{range_with_len}
 use Rattle.std.specs.Set.{is_member}
+use Rattle.list_lemmas.proofs.Bools.{apart_from_test}
+use Rattle.list_lemmas.proofs.Ranges.{All-range, is_member-range}
 use Rattle.graph_parts.proofs.Agreement.{eqb_from_iff}
 use Rattle.graph_parts.proofs.Counting.{label_after-append}
 use Rattle.graph_parts.proofs.Walks.{Contains-later}
@@ -18,10 +18,6 @@ use Rattle.strand_algebra.proofs.Matchings.{Matches, cut, without, Matches-cut, 
 use Rattle.strand_algebra.specs.StrandPairings.{seams}
 
 -- ---- lists of numbers in a row
-pub All-range : (P : ℕ → Type 0) (a k : ℕ) → ((i : ℕ) → a ≤ i → i < a + k → P i) → All P (range_with_len a k)
-All-range P a zero h = All-nil P
-All-range P a (suc k) h = All-cons P a (range_with_len (a + 1) k) (h a (omega arith) (omega arith)) (All-range P (a + 1) k (λ i p q. h i (omega arith) (omega arith)))
-
 pub Contains-range : (f : ℕ → ℕ × ℕ) (a k i : ℕ) → a ≤ i → i < a + k → Contains (map f (range_with_len a k)) (f i)
 Contains-range f a zero i p q = absurd (omega arith)
 Contains-range f a (suc k) i p q =
@@ -29,10 +25,6 @@ Contains-range f a (suc k) i p q =
     (λ e. let same : a ≡ i = sym (eqb-true i a e) in (0, omega arith, ap f same))
     (λ d. Contains-later (f a) (f i) (map f (range_with_len (a + 1) k)) (Contains-range f (a + 1) k i (grind (arith, nat_tests, d, p)) (omega arith)))
     (cases_Bool (i == a))
-
-pub is_member-range : (a k i : ℕ) → a ≤ i → i < a + k → is_member ◌==◌ (range_with_len a k) i ≡ true
-is_member-range a zero i p q = absurd (omega arith)
-is_member-range a (suc k) i p q = let ih = is_member-range (a + 1) k i in grind (arith, nat_tests, ih)
 
 -- ---- the names of a stack that are open after a edges of the seam
 abbrev pub is_open : ℕ → ℕ → ℕ → Bool
@@ -145,9 +137,6 @@ module _ (n : ℕ) (p q : List ℕ) (hp : IsPairingOf (n + n) p) (hq : IsPairing
 abbrev pub inner : ℕ → ℕ → ℕ
 inner n x = if nat_lt x n then x else x - (n + n)
 
-pub or_second : (a b : Bool) → b ≡ true → (a || b) ≡ true
-or_second a b h = grind (arith, h)
-
 pub outer_below : (n i : ℕ) → i < n + n → outer n i < n + n + (n + n)
 outer_below n i b = grind (arith, nat_tests)
 
@@ -191,9 +180,6 @@ other_is inside l m (y ∷ ys) x h a p i =
     other_plain l y x (m x) ys (h.tells x y p (All-head (λ z. inside z ≡ true) y ys a)) (h.moves x p)
     (λ d. other_is inside l m ys x h (All-tail (λ z. inside z ≡ true) y ys a) p (let e = i in grind (arith, d, e)))
 
-not_same : (a b : ℕ) → (a == b) ≡ false → a ≢ b
-not_same a b h e = grind (arith, nat_tests, h, e)
-
 pub not_below : (k x : ℕ) → nat_lt x k ≡ false → k ≤ x
 not_below k x h = grind (arith, nat_tests, h)
 
@@ -225,5 +211,5 @@ module _ (n : ℕ) (p q : List ℕ) (hp : IsPairingOf (n + n) p) (hq : IsPairing
         length_is = length-map-range_with_len (other (λ i. label_of (label_stack n p q) (outer n i)) (range_with_len 0 (n + n))) 0 (n + n);
         stays = λ i b. below_is (n + n) _ (h.stays i (is_below (n + n) i b));
         turns = λ i b. h.turns i (is_below (n + n) i b);
-        moves = λ i b e. (let f = h.moves i (is_below (n + n) i b) in not_same (slice_index (label_product n p q) i) i f e);
+        moves = λ i b e. (let f = h.moves i (is_below (n + n) i b) in apart_from_test (slice_index (label_product n p q) i) i f e);
       }

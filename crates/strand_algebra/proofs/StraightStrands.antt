@@ -1,7 +1,5 @@
 -- A product is the pairing whose points the stack joins, so it is enough to show one pairing joined; and straight strands
 -- change nothing on either side and close no loop.
---
--- Others cite: same_list, product_is, low_edge, high_edge, seam_edge, straight_at, IsPairingOf-straight, straight_product, straight_loops, product_straight, loops_straight.
 use Rattle.std.proofs.Common.{◌≡◌, ℕ, ◌+◌, ◌-◌, ◌<◌, ◌≤◌, ◌≢◌, true, nat_lt, ◌||◌, ◌==◌, List, ◌++◌, map, length, slice_index, refl, sym, ap, ◌∙◌, arith, ⊎_elim}
 use Rattle.std.proofs.lemmas.List.Elements.{All-map, Contains-append_left, Contains-append_right}
 use Rattle.std.proofs.lemmas.Bool.{cases_Bool, eq-eqb}
@@ -9,6 +7,7 @@ use Rattle.std.proofs.lemmas.Bool.Decides.{nat_tests}
 use Rattle.std.proofs.lemmas.List.FromFn.{length-map-range_with_len, get_or-map-range_with_len, fill_by_all}
 use Rattle.std.specs.List.{range_with_len}
 use Rattle.std.specs.Set.{is_member}
+use Rattle.list_lemmas.proofs.Ranges.{is_member-range}
 use Rattle.graph_parts.proofs.Agreement.{to_All}
 use Rattle.graph_parts.proofs.Counting.{is_member-map}
 use Rattle.graph_parts.proofs.Distinct.{distinct_count-le_from_within}
@@ -17,7 +16,7 @@ use Rattle.graph_parts.specs.Labels.{label_of}
 use Rattle.graph_parts.specs.Walks.{along}
 use Rattle.strand_algebra.proofs.Contractions.{below_range}
 use Rattle.strand_algebra.proofs.LabelProducts.{pairs, label_stack, outer, label_product, label_loops, IsPairingOf}
-use Rattle.strand_algebra.proofs.Stacks.{is_below, is_member-range, Contains-range, Contains-pairs, Matches-product, IsPairingOf-product}
+use Rattle.strand_algebra.proofs.Stacks.{is_below, Contains-range, Contains-pairs, Matches-product, IsPairingOf-product}
 use Rattle.strand_algebra.specs.StrandPairings.{seams, straight}
 
 pub same_list : (size : ℕ) (p q : List ℕ) → length p ≡ size → length q ≡ size → ((i : ℕ) → i < size → slice_index p i ≡ slice_index q i) → p ≡ q

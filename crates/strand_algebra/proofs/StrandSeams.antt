@@ -1,24 +1,21 @@
 -- The seam of two pairings on strands: no name stands more than twice, and the names that stand once are left, increasing.
---
--- Others cite: strand_seam.
-use Rattle.std.proofs.Common.{◌≡◌, ℕ, zero, suc, ◌+◌, ◌-◌, ◌<◌, ◌≤◌, nat_lt, nat_le, ◌==◌, ◌&&◌, ◌||◌, if◌then◌else◌, cond, List, [], ◌∷◌, ◌++◌, map, length-append, refl, sym, ap, ap₂, ◌∙◌, arith, Less, ⊎_elim}
-use Rattle.std.specs.List.{range_with_len, AllByRecursion}
-use Rattle.std.specs.List.Sorted.{IsStrictlyIncreasing, IsStrictlySortedBy}
-use Rattle.std.specs.Ordering.{nat_cmp}
+-- How often a name stands is counted by its place in the rows of numbers that the names are. Where a pairing is closed, each
+-- name stands twice and none is left.
+use Rattle.std.proofs.Common.{◌≡◌, ℕ, zero, suc, ◌+◌, ◌-◌, ◌<◌, ◌≤◌, nat_lt, nat_le, ◌==◌, ◌&&◌, ◌||◌, if◌then◌else◌, cond, List, [], ◌∷◌, ◌++◌, map, length-append, refl, sym, ap, ◌∙◌, arith, ⊎_elim}
+use Rattle.std.specs.List.{range_with_len}
+use Rattle.std.specs.List.Sorted.{IsStrictlyIncreasing}
 use Rattle.std.proofs.lemmas.Bool.{cases_Bool}
 use Rattle.std.proofs.lemmas.Bool.Decides.{nat_tests}
 use Rattle.std.proofs.lemmas.List.{get_or_append_left, get_or-append_right}
 use Rattle.std.proofs.lemmas.List.FromFn.{fill_by_all, length-map-range_with_len, get_or-map-range_with_len, length-range_with_len, get_or-range_with_len}
-use Rattle.std.proofs.lemmas.List.Sums.{sum_by-cons}
-use Rattle.std.proofs.lemmas.Map.Keys.{sorted_from_strictly_increasing}
-use Rattle.list_lemmas.proofs.Times.{times_in-append}
+use Rattle.list_lemmas.proofs.Increasing.{one_increasing}
+use Rattle.list_lemmas.proofs.Ranges.{range_increasing}
+use Rattle.list_lemmas.proofs.Times.{times_in-cons, times_in-append}
+use Rattle.arc_gluing.specs.Pairings.{AreOpen}
 use Rattle.list_lemmas.specs.Times.{times_in}
-use Rattle.strand_algebra.specs.GluedProducts.{below_names, above_names, left_names, SeamLaw}
-use Rattle.strand_algebra.proofs.Gluings.{above_name, glued_name, left_at, left_length}
+use Rattle.strand_algebra.specs.GluedProducts.{above_name, below_names, above_names, left_names, SeamLaw}
+use Rattle.strand_algebra.proofs.Gluings.{glued_name, left_at, left_length}
 use Rattle.strand_algebra.proofs.LabelProducts.{outer}
-
-times_in-cons : (y : ℕ) (ys : List ℕ) (x : ℕ) → times_in (y ∷ ys) x ≡ cond (x == y) 1 0 + times_in ys x
-times_in-cons y ys x = sum_by-cons (λ z. cond (x == z) 1 0) y ys
 
 -- ---- how often a name stands
 times_in-row : (a k x : ℕ) → times_in (range_with_len a k) x ≡ cond (nat_le a x && nat_lt x (a + k)) 1 0
@@ -67,7 +64,7 @@ module _ (n x : ℕ) where
 few_names : (n x : ℕ) → times_in (below_names n ++ above_names n) x ≤ 2
 few_names n x = let s = times_in-append (below_names n) (above_names n) x in let a = times_below n x in let b = times_above n x in grind (arith, nat_tests, s, a, b)
 
-left_open : (n x : ℕ) → times_in (left_names n) x ≡ (if times_in (below_names n ++ above_names n) x == 1 then 1 else 0)
+pub left_open : (n x : ℕ) → times_in (left_names n) x ≡ (if times_in (below_names n ++ above_names n) x == 1 then 1 else 0)
 left_open n x =
     let s = times_in-append (below_names n) (above_names n) x in
     let a = times_below n x in
@@ -75,45 +72,7 @@ left_open n x =
     let c = times_left n x in
     grind (arith, nat_tests, s, a, b, c)
 
--- ---- increasing lists with the same names are one
-past_all : (x y : ℕ) (ys : List ℕ) → x ≤ y → AllByRecursion (λ z. nat_cmp y z ≡ Less) ys → times_in ys x ≡ 0
-past_all x y [] h p = refl
-past_all x y (z ∷ ys) h p =
-    let c = times_in-cons z ys x in
-    let ih = past_all x y ys h p.1 in
-    let l = less y z p.0 in
-    grind (arith, nat_tests, c, ih, l, h)
-  where
-    less : (a b : ℕ) → nat_cmp a b ≡ Less → a < b
-    less a b h = grind (arith, nat_tests, h)
-
-same_sorted : (xs ys : List ℕ) → IsStrictlySortedBy nat_cmp xs → IsStrictlySortedBy nat_cmp ys → ((x : ℕ) → times_in xs x ≡ times_in ys x) → xs ≡ ys
-unfolding IsStrictlySortedBy
-same_sorted [] [] s t h = refl
-same_sorted [] (y ∷ ys) s t h = absurd (let c = times_in-cons y ys y in let e = h y in grind (arith, nat_tests, c, e))
-same_sorted (x ∷ xs) [] s t h = absurd (let c = times_in-cons x xs x in let e = h x in grind (arith, nat_tests, c, e))
-same_sorted (x ∷ xs) (y ∷ ys) s t h =
-    let not_more : (x < y → ⊥) = λ l. first_missing x xs y ys l t.0 (h x) in
-    let not_less : (y < x → ⊥) = λ l. first_missing y ys x xs l s.0 (sym (h y)) in
-    let e : x ≡ y = omega (arith, not_more, not_less) in
-    ap₂ (λ a b. a ∷ b) e
-    (same_sorted xs ys s.1 t.1 (λ z. let a = times_in-cons x xs z in let b = times_in-cons y ys z in let c = h z in rest x y (times_in xs z) (times_in ys z) z e (sym a ∙ c ∙ b)))
-  where
-    first_missing : (x : ℕ) (xs : List ℕ) (y : ℕ) (ys : List ℕ) → x < y → AllByRecursion (λ z. nat_cmp y z ≡ Less) ys → times_in (x ∷ xs) x ≡ times_in (y ∷ ys) x → ⊥
-    first_missing x xs y ys l t e =
-        let a = times_in-cons x xs x in let b = times_in-cons y ys x in let c = past_all x y ys (omega (arith, l)) t in grind (arith, nat_tests, a, b, c, e, l)
-
-    rest : (x y k l z : ℕ) → x ≡ y → cond (z == x) 1 0 + k ≡ cond (z == y) 1 0 + l → k ≡ l
-    rest x y k l z e h = grind (arith, nat_tests, e, h)
-
-row_rises : (a k : ℕ) → IsStrictlyIncreasing (range_with_len a k)
-row_rises a k i l =
-    let s = length-range_with_len a k in
-    let b : i + 1 < k = omega (arith, s, l) in
-    let e = get_or-range_with_len a k i 0 (omega (arith, b)) in
-    let f = get_or-range_with_len a k (i + 1) 0 b in
-    omega (arith, e, f)
-
+-- ---- what is left increases
 left_step : (n i : ℕ) → i + 1 < n + n → glued_name n (outer n i) < glued_name n (outer n (i + 1))
 left_step n i b = grind (arith, nat_tests)
 
@@ -126,11 +85,21 @@ left_rises n i l =
     let r = left_step n i b in
     omega (arith, e, f, r)
 
+-- ---- a closed pairing: its names stand twice
+times_doubled : (n x : ℕ) → times_in (below_names n ++ below_names n) x ≡ cond (nat_lt x (n + n)) 2 0
+times_doubled n x = let s = times_in-append (below_names n) (below_names n) x in let a = times_below n x in grind (arith, nat_tests, s, a)
+
+pub few_doubled : (n x : ℕ) → times_in (below_names n ++ below_names n) x ≤ 2
+few_doubled n x = let d = times_doubled n x in grind (arith, nat_tests, d)
+
+pub none_left : (n : ℕ) (names : List ℕ) → AreOpen (below_names n ++ below_names n) names → names ≡ []
+none_left n [] h = refl
+none_left n (y ∷ ys) h = absurd (let c = times_in-cons y ys y in let e = h.once y in let d = times_doubled n y in grind (arith, nat_tests, c, e, d))
+
 -- THE SEAM
 pub strand_seam : SeamLaw
 strand_seam n = record {
-  increasing = row_rises 0 (n + n);
+  increasing = range_increasing 0 (n + n);
   few = few_names n;
-  left = λ names h up.
-      same_sorted names (left_names n) (sorted_from_strictly_increasing names up) (sorted_from_strictly_increasing (left_names n) (left_rises n)) (λ x. h.once x ∙ sym (left_open n x));
+  left = λ names h up. one_increasing names (left_names n) up (left_rises n) (λ x. h.once x ∙ sym (left_open n x));
 }

@@ -1,9 +1,7 @@
 -- Totals of formal sums: a total passes through sums, multiples and products.
 --
 --     within n d w p q       the worth of q behind p: delta for each loop, times the worth of the product
---
--- Others cite: AreTerms, AreTerms-append, total-append, total-scale, total-times, total-plus, total-nothing, total_same, total_congruent, within, total-multiply, power-add.
-use Rattle.std.proofs.Common.{◌≡◌, ℕ, zero, suc, ◌+◌, List, [], ◌∷◌, ◌++◌, map, ℤ, pos, ◌+ℤ◌, ◌*ℤ◌, refl, ap, ap₂, ◌∙◌, arith}
+use Rattle.std.proofs.Common.{◌≡◌, ℕ, List, [], ◌∷◌, ◌++◌, map, ℤ, pos, ◌+ℤ◌, ◌*ℤ◌, refl, ap, ap₂, ◌∙◌}
 use Rattle.ring_identities.proofs.Congruences.{congruent_refl, congruent_plus, congruent_times}
 use Rattle.ring_identities.proofs.Identities.{reads, by_ring}
 use Rattle.ring_identities.specs.Powers.{power}
@@ -73,11 +71,3 @@ total-multiply n d [] y w = refl
 total-multiply n d (s ∷ x) y w =
     total-append (map (λ t. (s.0 *ℤ (t.0 *ℤ power d (label_loops n s.1 t.1)), label_product n s.1 t.1)) y) (formal_multiply n d x y) w
     ∙ ap₂ (λ a b. a +ℤ b) (total-row n d s.0 s.1 y w) (total-multiply n d x y w)
-
-pub power-add : (d : ℤ) (i j : ℕ) → power d (i + j) ≡ power d i *ℤ power d j
-unfolding power
-power-add d zero j = (let z : 0 + j ≡ j = omega arith in ap (power d) z) ∙ by_ring (power d j ∷ []) (search reads depth 30) (search reads depth 30) refl
-power-add d (suc i) j =
-    (let z : suc i + j ≡ suc (i + j) = omega arith in ap (power d) z)
-    ∙ ap (λ k. d *ℤ k) (power-add d i j)
-    ∙ by_ring (d ∷ power d i ∷ power d j ∷ []) (search reads depth 30) (search reads depth 30) refl

@@ -1,6 +1,4 @@
 -- The projector is unchanged where top and bottom are exchanged, and by half a turn: both are turns of the algebra (Turns).
---
--- Others cite: turned_sum, total-turned, half, projector_mirror, projector_half.
 use Rattle.std.proofs.Common.{◌≡◌, ℕ, suc, ◌+◌, ◌-◌, ◌<◌, nat_lt, ⊎_elim, if◌then◌else◌, List, [], ◌∷◌, map, ℤ, pos, ◌+ℤ◌, ◌*ℤ◌, refl, sym, ap, ap₂, ◌∙◌, arith}
 use Rattle.std.proofs.lemmas.Bool.{cases_Bool}
 use Rattle.ring_identities.proofs.Congruences.{congruent_refl, congruent_eq, congruent_trans}

@@ -1,7 +1,5 @@
 -- A projector is the unit plus multiples of hooks; so what is that too, and is killed by the hooks, is the projector. A turn
 -- of the algebra, which exchanges the factors and takes hooks to hooks, makes such an element of it.
---
--- Others cite: IsTurn, turned_projector.
 use Rattle.std.proofs.Common.{◌≡◌, ℕ, zero, suc, ◌<◌, ℤ, neg_ℤ, arith, subst}
 use Rattle.ring_identities.proofs.Congruences.{congruent_refl}
 use Rattle.strand_algebra.proofs.Algebras.{Algebra, AreHooks, AreProjectors}

@@ -2,17 +2,16 @@
 -- are neighbours, so joining their partners makes no crossing.
 --
 --     Uncrossed inside m       the pairs {u, m u} of the names inside do not cross
---
--- Others cite: IsNoncrossing-product.
-use Rattle.std.proofs.Common.{◌≡◌, ◌≢◌, ℕ, zero, suc, ◌+◌, ◌-◌, ◌<◌, ◌≤◌, Bool, true, false, cond, not, nat_lt, ◌==◌, if◌then◌else◌, List, ◌++◌, map, length, slice_index, sym, ap, ◌∙◌, arith, ⊎_elim}
+use Rattle.std.proofs.Common.{◌≡◌, ◌≢◌, ℕ, zero, suc, ◌+◌, ◌-◌, ◌<◌, Bool, true, cond, not, nat_lt, ◌==◌, if◌then◌else◌, List, ◌++◌, map, slice_index, sym, ap, ◌∙◌, arith, ⊎_elim}
 use Rattle.std.specs.List.{range_with_len}
 use Rattle.std.proofs.lemmas.Bool.{cases_Bool, eqb-true, eq-eqb}
 use Rattle.std.proofs.lemmas.Bool.Decides.{nat_tests}
-use Rattle.std.proofs.lemmas.List.{get_or_past}
+use Rattle.list_lemmas.proofs.Items.{get_past}
+use Rattle.list_lemmas.proofs.Bools.{apart_from_test, and_first, and_second}
 use Rattle.graph_parts.specs.Labels.{relabel, label_after, label_of}
 use Rattle.arc_pairing.specs.Pairings.{IsNoncrossing}
 use Rattle.strand_algebra.proofs.LabelProducts.{IsPairingOf, pairs, label_stack, outer, label_product}
-use Rattle.strand_algebra.proofs.Matchings.{Matches, cut, without, Matches-cut, Matches-same, both_first, both_second}
+use Rattle.strand_algebra.proofs.Matchings.{Matches, cut, without, Matches-cut, Matches-same}
 use Rattle.strand_algebra.proofs.Stacks.{is_open, one_more, open_up, open_down, open_apart, stack_label, outer_open, outer_inner, partner_in, Matches-two, Matches-outer, Matches-product, IsPairingOf-product, inner, is_below, below_is}
 
 -- no two pairs of the names inside cross
@@ -26,17 +25,14 @@ closed_in v w a b s va vb wa wb n o f g h = grind (arith, s, va, vb, wa, wb, n, 
 closed_out : (v w a b : ℕ) → b < a → v ≢ a → v ≢ b → w ≢ a → w ≢ b → (b < v → v < a → ⊥) → (b < w → w < a → ⊥) → (a < v → ⊥) → (v < b → b < w → ⊥) → (w < a → ⊥) → ⊥
 closed_out v w a b s va vb wa wb n o f g h = grind (arith, s, va, vb, wa, wb, n, o, f, g, h)
 
-from_test : (x y : ℕ) → (x == y) ≡ false → x ≢ y
-from_test x y h e = let t = eq-eqb x y e in grind (arith, t, h)
-
 without_inside : (inside : ℕ → Bool) (a b x : ℕ) → without inside a b x ≡ true → inside x ≡ true
-without_inside inside a b x h = both_first (inside x) _ h
+without_inside inside a b x h = and_first (inside x) _ h
 
 without_first : (inside : ℕ → Bool) (a b x : ℕ) → without inside a b x ≡ true → x ≢ a
-without_first inside a b x h e = let t = eq-eqb x a e in let s = both_first (not (x == a)) _ (both_second (inside x) _ h) in grind (arith, t, s)
+without_first inside a b x h e = let t = eq-eqb x a e in let s = and_first (not (x == a)) _ (and_second (inside x) _ h) in grind (arith, t, s)
 
 without_second : (inside : ℕ → Bool) (a b x : ℕ) → without inside a b x ≡ true → x ≢ b
-without_second inside a b x h e = let t = eq-eqb x b e in let s = both_second (not (x == a)) _ (both_second (inside x) _ h) in grind (arith, t, s)
+without_second inside a b x h e = let t = eq-eqb x b e in let s = and_second (not (x == a)) _ (and_second (inside x) _ h) in grind (arith, t, s)
 
 module _ (inside : ℕ → Bool) (l m : ℕ → ℕ) (a b : ℕ) (p : inside a ≡ true) (q : inside b ≡ true) (less : b < a) (h : Matches inside l m)
     (near : (x : ℕ) → inside x ≡ true → b < x → x < a → ⊥) (free : Uncrossed inside m) where
@@ -69,7 +65,7 @@ module _ (inside : ℕ → Bool) (l m : ℕ → ℕ) (a b : ℕ) (p : inside a �
       let cv : cut m a b v ≡ m v = (let s = f in let t = g in grind (arith, s, t)) in
       let vmb : v < m b = omega (arith, vm, cu) in
       let bmv : m b < m v = omega (arith, mm, cu, cv) in
-      closed_in v (m v) a b less va vb (from_test (m v) a f) (from_test (m v) b g) (near v jv) (near (m v) mv)
+      closed_in v (m v) a b less va vb (apart_from_test (m v) a f) (apart_from_test (m v) b g) (near v jv) (near (m v) mv)
       (λ bv. free b v q jv bv vmb bmv)
       (λ x y. free u v ju jv uv (omega (arith, x, eu)) (omega (arith, y, eu)))
       (λ x. free v (m b) jv mb vmb bmv (let t = h.turns b q in omega (arith, x, t))))
@@ -88,7 +84,7 @@ module _ (inside : ℕ → Bool) (l m : ℕ → ℕ) (a b : ℕ) (p : inside a �
       let cv : cut m a b v ≡ m v = (let s = f in let t = g in grind (arith, s, t)) in
       let vma : v < m a = omega (arith, vm, cu) in
       let amv : m a < m v = omega (arith, mm, cu, cv) in
-      closed_out v (m v) a b less va vb (from_test (m v) a f) (from_test (m v) b g) (near v jv) (near (m v) mv)
+      closed_out v (m v) a b less va vb (apart_from_test (m v) a f) (apart_from_test (m v) b g) (near v jv) (near (m v) mv)
       (λ av. free a v p jv av vma amv)
       (λ x y. free u v ju jv uv (omega (arith, x, eu)) (omega (arith, y, eu)))
       (λ x. free v (m a) jv ma vma amv (let t = h.turns a p in omega (arith, x, t))))
@@ -103,7 +99,7 @@ module _ (inside : ℕ → Bool) (l m : ℕ → ℕ) (a b : ℕ) (p : inside a �
       let mav : m a ≡ v = sym (ap m ev) ∙ h.turns v jv in
       let cv : cut m a b v ≡ m b = ap (λ t. cond t (m b) (if m v == b then m a else m v)) f in
       let umb : m u < m b = omega (arith, mm, cu, cv) in
-      closed_out u (m u) a b less ua ub (from_test (m u) a e) (from_test (m u) b e2) (near u ju) (near (m u) mu)
+      closed_out u (m u) a b less ua ub (apart_from_test (m u) a e) (apart_from_test (m u) b e2) (near u ju) (near (m u) mu)
       (λ au. free a u p ju au (omega (arith, uv, mav)) (omega (arith, vmu, mav)))
       (λ x y. free u b ju q x y umb)
       (λ x. free u v ju jv uv vmu (omega (arith, x, ev))))
@@ -113,7 +109,7 @@ module _ (inside : ℕ → Bool) (l m : ℕ → ℕ) (a b : ℕ) (p : inside a �
       let mbv : m b ≡ v = sym (ap m ev) ∙ h.turns v jv in
       let cv : cut m a b v ≡ m a = (let s = f in let t = g in grind (arith, s, t)) in
       let uma : m u < m a = omega (arith, mm, cu, cv) in
-      closed_in u (m u) a b less ua ub (from_test (m u) a e) (from_test (m u) b e2) (near u ju) (near (m u) mu)
+      closed_in u (m u) a b less ua ub (apart_from_test (m u) a e) (apart_from_test (m u) b e2) (near u ju) (near (m u) mu)
       (λ bu. free b u q ju bu (omega (arith, uv, mbv)) (omega (arith, vmu, mbv)))
       (λ x y. free u a ju p x y uma)
       (λ x. free u v ju jv uv vmu (omega (arith, x, ev))))
@@ -165,9 +161,6 @@ same_partner inside l m k h g x p =
 outer_rises : (n i j : ℕ) → i < j → outer n i < outer n j
 outer_rises n i j h = grind (arith, nat_tests, h)
 
-past_end : (p : List ℕ) (i : ℕ) → length p ≤ i → slice_index p i ≡ 0
-past_end p i h = get_or_past p i 0 h
-
 module _ (n : ℕ) (p q : List ℕ) (hp : IsPairingOf (n + n) p) (hq : IsPairingOf (n + n) q) (fp : IsNoncrossing p) (fq : IsNoncrossing q) where
   abbrev seamed : (w : ℕ → ℕ) × (Matches (is_open n n) (label_after (label_of (pairs 0 q ++ pairs (n + n) p)) (map (λ i. (n + n + i, n + n - 1 - i)) (range_with_len 0 n))) w × Uncrossed (is_open n n) w)
   seamed =
@@ -193,7 +186,7 @@ module _ (n : ℕ) (p q : List ℕ) (hp : IsPairingOf (n + n) p) (hq : IsPairing
   within : (i : ℕ) → 0 < slice_index (label_product n p q) i → i < n + n
   within i h =
       ⊎_elim (λ t. below_is (n + n) i t)
-      (λ f. absurd (let s = (IsPairingOf-product n p q hp hq).length_is in let z = past_end (label_product n p q) i (grind (arith, nat_tests, s, f)) in omega (arith, z, h)))
+      (λ f. absurd (let s = (IsPairingOf-product n p q hp hq).length_is in let z = get_past (label_product n p q) i (grind (arith, nat_tests, s, f)) in omega (arith, z, h)))
       (cases_Bool (nat_lt i (n + n)))
 
   -- THE PRODUCT OF NONCROSSING PAIRINGS

@@ -2,8 +2,6 @@
 -- the one before it is absorbed on either side, a hook e_n on both sides of f^n leaves a multiple of f^(n-1) e_n, and the
 -- hooks before it give zero on either side. The square follows from the killing: f^(n+1) f^(n+1) is f^(n+1) f^n, less a
 -- multiple of f^(n+1) e_n f^n, which is zero.
---
--- Others cite: IsLevel, level.
 use Rattle.std.proofs.Common.{◌≡◌, ℕ, zero, suc, ◌<◌, ℤ, pos, ◌+ℤ◌, ◌*ℤ◌, neg_ℤ, ◌==◌, [], ◌∷◌, refl, arith, ⊎_elim, ◌⊎◌, inl, inr}
 use Rattle.std.proofs.lemmas.Bool.{cases_Bool, eqb-true}
 use Rattle.std.proofs.lemmas.Bool.Decides.{nat_tests}

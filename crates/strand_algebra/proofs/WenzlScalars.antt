@@ -1,7 +1,5 @@
 -- The numbers of Wenzl's recursion: the ratios of the Delta_n, by the inverses alone, for any modulus; and what the closures
 -- come to, where closing f^(n+1) gives d v - c v.
---
--- Others cite: ratio, growth, ratio_growth, closures.
 use Rattle.std.proofs.Common.{ℕ, zero, suc, ◌<◌, ℤ, pos, ◌+ℤ◌, ◌*ℤ◌, neg_ℤ, ◌-ℤ◌, [], ◌∷◌, refl, arith}
 use Rattle.ring_identities.proofs.Congruences.{congruent_refl, congruent_plus, congruent_times, congruent_trans}
 use Rattle.ring_identities.proofs.Modulo.{modulos, by_congruences}

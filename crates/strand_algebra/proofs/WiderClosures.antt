@@ -1,12 +1,12 @@
 -- One more straight strand closes to one more loop.
---
--- Others cite: pair_edge, closing_edge, closed_widened.
-use Rattle.std.proofs.Common.{◌≡◌, ℕ, suc, ◌+◌, ◌-◌, ◌<◌, true, false, cond, nat_lt, ◌||◌, ◌==◌, if◌then◌else◌, List, ◌∷◌, map, slice_index, refl, sym, ap, ap₂, ◌∙◌, arith, All, ⊎_elim}
+use Rattle.std.proofs.Common.{◌≡◌, ℕ, suc, ◌+◌, ◌-◌, ◌<◌, true, false, cond, ◌||◌, ◌==◌, if◌then◌else◌, List, ◌∷◌, map, slice_index, refl, sym, ap, ap₂, ◌∙◌, arith, All, ⊎_elim}
 use Rattle.std.proofs.lemmas.List.Elements.{All-append, All-map, Contains-append_left, Contains-append_right}
 use Rattle.std.proofs.lemmas.Bool.{cases_Bool, eqb-true, eq-eqb, or_left, or_right, or_cases}
 use Rattle.std.proofs.lemmas.Bool.Decides.{nat_tests}
 use Rattle.std.specs.List.{range_with_len}
 use Rattle.std.specs.Set.{is_member, distinct_count}
+use Rattle.graph_parts.proofs.Through.{keeps_Joined, member_label}
+use Rattle.list_lemmas.proofs.Ranges.{All-range, is_member-range}
 use Rattle.graph_parts.proofs.Agreement.{eqb_from_iff, to_All, label_count-agree}
 use Rattle.graph_parts.proofs.Counting.{distinct_count-cons}
 use Rattle.graph_parts.proofs.Renaming.{map_map}
@@ -15,9 +15,8 @@ use Rattle.graph_parts.specs.Labels.{label_of}
 use Rattle.graph_parts.specs.Walks.{along}
 use Rattle.strand_algebra.proofs.Contractions.{below_range, in_map, out_map, member_map}
 use Rattle.strand_algebra.proofs.LabelProducts.{closed_edges, pairs, label_closed_loops, IsPairingOf}
-use Rattle.strand_algebra.proofs.Stacks.{is_member-range, All-range, All-pairs, Contains-range, Contains-pairs}
-use Rattle.strand_algebra.proofs.Walking.{keeps_Joined, member_label}
-use Rattle.strand_algebra.proofs.WiderStacks.{by_points, moved_below, wide_old, wide_new, wide_next, IsPairingOf-widened, label_count-like}
+use Rattle.strand_algebra.proofs.Stacks.{All-pairs, Contains-range, Contains-pairs}
+use Rattle.strand_algebra.proofs.WiderStacks.{by_points, moved_below, wide_old, wide_new, wide_next, IsPairingOf-widened, label_count-like, less_than, moved_close, moved_low, zero_suc, suc_suc, unmoved, unmoved_moved}
 use Rattle.strand_algebra.specs.StrandPairings.{moved, widened}
 
 module _ (n : ℕ) (p : List ℕ) (hp : IsPairingOf (n + n) p) where
@@ -32,17 +31,11 @@ module _ (n : ℕ) (p : List ℕ) (hp : IsPairingOf (n + n) p) where
       labels-from_Joined (closed_edges n p)
       (along (Contains-append_right (pairs 0 p) (map (λ k. (k, n + n - 1 - k)) (range_with_len 0 n)) (i, n + n - 1 - i) (Contains-range (λ k. (k, n + n - 1 - k)) 0 n i (omega arith) (omega arith))))
 
-abbrev unmoved : ℕ → ℕ → ℕ
-unmoved n j = if nat_lt j n then j else j - 2
-
 abbrev mark : (ℕ → ℕ) → ℕ → ℕ → ℕ
 mark l n y = if y == n || y == n + 1 then 0 else suc (l (unmoved n y))
 
 not_new : (n i : ℕ) → (moved n i == n || moved n i == n + 1) ≡ false
 not_new n i = grind (arith, nat_tests)
-
-back : (n i : ℕ) → unmoved n (moved n i) ≡ i
-back n i = grind (arith, nat_tests)
 
 new_first : (n : ℕ) → (n == n || n == n + 1) ≡ true
 new_first n = grind (arith, nat_tests)
@@ -51,28 +44,13 @@ new_second : (n : ℕ) → (n + 1 == n || n + 1 == n + 1) ≡ true
 new_second n = grind (arith, nat_tests)
 
 mark_old : (l : ℕ → ℕ) (n i : ℕ) → mark l n (moved n i) ≡ suc (l i)
-mark_old l n i = ap₂ (λ c x. cond c 0 (suc (l x))) (not_new n i) (back n i)
+mark_old l n i = ap₂ (λ c x. cond c 0 (suc (l x))) (not_new n i) (unmoved_moved n i)
 
 mark_first : (l : ℕ → ℕ) (n : ℕ) → mark l n n ≡ 0
 mark_first l n = ap (λ c. cond c 0 (suc (l (unmoved n n)))) (new_first n)
 
 mark_second : (l : ℕ → ℕ) (n : ℕ) → mark l n (n + 1) ≡ 0
 mark_second l n = ap (λ c. cond c 0 (suc (l (unmoved n (n + 1))))) (new_second n)
-
-moved_close : (n i : ℕ) → i < n → moved n (n + n - 1 - i) ≡ n + 1 + (n + 1) - 1 - i
-moved_close n i b = grind (arith, nat_tests)
-
-moved_low : (n i : ℕ) → i < n → moved n i ≡ i
-moved_low n i b = grind (arith, nat_tests)
-
-less_than : (n i : ℕ) → (i == n) ≡ false → i < n + 1 → i < n
-less_than n i d b = grind (arith, nat_tests, d, b)
-
-zero_suc : (k : ℕ) → 0 ≡ suc k → ⊥
-zero_suc k e = omega (arith, e)
-
-suc_suc : (a b : ℕ) → suc a ≡ suc b → a ≡ b
-suc_suc a b e = omega (arith, e)
 
 module _ (n : ℕ) (p : List ℕ) (hp : IsPairingOf (n + n) p) where
   abbrev P : List ℕ

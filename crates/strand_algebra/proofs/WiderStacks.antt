@@ -1,7 +1,5 @@
 -- One more strand on the right keeps products and loops: names of the stack are names of the wider stack, whose new strand is
 -- joined through. What the wider stack joins is told by a label of its names that each of its edges keeps.
---
--- Others cite: moved_below, wide_old, wide_new, wide_next, by_points, IsPairingOf-widened, label_count-like, product_widened, loops_widened.
 use Rattle.std.proofs.Common.{◌≡◌, ℕ, suc, ◌+◌, ◌-◌, ◌<◌, ◌≤◌, ◌≢◌, Bool, true, false, cond, nat_lt, ◌||◌, ◌==◌, if◌then◌else◌, List, ◌∷◌, ◌++◌, map, length, slice_index, take, drop, length-append, refl, sym, ap, ap₂, ◌∙◌, arith, All, ⊎_elim}
 use Rattle.std.proofs.lemmas.List.Elements.{All-append, All-map}
 use Rattle.std.proofs.lemmas.Bool.{cases_Bool, eqb-true, eq-eqb, or_left, or_right, or_cases}
@@ -9,6 +7,8 @@ use Rattle.std.proofs.lemmas.Bool.Decides.{nat_tests}
 use Rattle.std.proofs.lemmas.List.{length-map, length-take-le, length-drop, get_or_append_left, get_or-append-add, get_or-map, get_or-take, get_or-drop}
 use Rattle.std.specs.List.{range_with_len}
 use Rattle.std.specs.Set.{is_member, distinct_count}
+use Rattle.graph_parts.proofs.Through.{keeps_Joined, member_label}
+use Rattle.list_lemmas.proofs.Ranges.{All-range, is_member-range}
 use Rattle.graph_parts.proofs.Agreement.{eqb_from_iff, to_All, label_count-agree}
 use Rattle.graph_parts.proofs.Counting.{is_member-map, distinct_count-cons}
 use Rattle.graph_parts.proofs.Distinct.{distinct_count-le_from_within}
@@ -17,9 +17,8 @@ use Rattle.graph_parts.proofs.Walks.{Joined-from_labels}
 use Rattle.graph_parts.specs.Labels.{label_of, label_count}
 use Rattle.strand_algebra.proofs.Contractions.{below_range, in_map, out_map, member_map}
 use Rattle.strand_algebra.proofs.LabelProducts.{pairs, label_stack, outer, label_product, label_loops, IsPairingOf}
-use Rattle.strand_algebra.proofs.Stacks.{not_below, outer_below, or_second, below_is, is_below, is_member-range, All-range, All-pairs, Matches-product, IsPairingOf-product}
+use Rattle.strand_algebra.proofs.Stacks.{not_below, outer_below, below_is, is_below, All-pairs, Matches-product, IsPairingOf-product}
 use Rattle.strand_algebra.proofs.StraightStrands.{product_is, low_edge, high_edge, seam_edge}
-use Rattle.strand_algebra.proofs.Walking.{keeps_Joined, member_label}
 use Rattle.strand_algebra.specs.StrandPairings.{seams, moved, widened}
 
 -- ---- the points of the wider pairing
@@ -60,10 +59,10 @@ moved_one : (n i j : ℕ) → moved n i ≡ moved n j → i ≡ j
 moved_one n i j e = grind (arith, nat_tests, e)
 
 -- the point that moves to j
-abbrev unmoved : ℕ → ℕ → ℕ
+abbrev pub unmoved : ℕ → ℕ → ℕ
 unmoved n j = if nat_lt j n then j else j - 2
 
-unmoved_moved : (n i : ℕ) → unmoved n (moved n i) ≡ i
+pub unmoved_moved : (n i : ℕ) → unmoved n (moved n i) ≡ i
 unmoved_moved n i = grind (arith, nat_tests)
 
 moved_unmoved : (n j : ℕ) → (j == n) ≡ false → (j == n + 1) ≡ false → moved n (unmoved n j) ≡ j
@@ -131,7 +130,7 @@ outer_next n = grind (arith, nat_tests)
 less_one : (a b c d : ℕ) → a ≡ 1 + c → b ≡ 1 + d → a - b ≡ c - d
 less_one a b c d e f = omega (arith, e, f)
 
-less_than : (n i : ℕ) → (i == n) ≡ false → i < n + 1 → i < n
+pub less_than : (n i : ℕ) → (i == n) ≡ false → i < n + 1 → i < n
 less_than n i d b = grind (arith, nat_tests, d, b)
 
 -- ---- the other way: a label of the wider names that the wider stack keeps
@@ -185,11 +184,11 @@ wider_mark l n x b =
     ap (mark l n) (ap (wider n) (sym z) ∙ wider_high n (x - (n + n))) ∙ mark_high l n (x - (n + n)) (omega arith) ∙ ap (λ k. suc (l k)) z)
     (cases_Bool (nat_lt x (n + n)))
 
-seam_plain : (n i : ℕ) → i < n → moved n (n + n - 1 - i) ≡ n + 1 + (n + 1) - 1 - i
-seam_plain n i b = grind (arith, nat_tests)
+pub moved_close : (n i : ℕ) → i < n → moved n (n + n - 1 - i) ≡ n + 1 + (n + 1) - 1 - i
+moved_close n i b = grind (arith, nat_tests)
 
-moved_same : (n i : ℕ) → i < n → moved n i ≡ i
-moved_same n i b = grind (arith, nat_tests)
+pub moved_low : (n i : ℕ) → i < n → moved n i ≡ i
+moved_low n i b = grind (arith, nat_tests)
 
 -- the same labels, the same count
 pub label_count-like : (l : ℕ → ℕ) (xs ys : List ℕ) → ((x : ℕ) → is_member ◌==◌ xs x ≡ true → (y : ℕ) × ((is_member ◌==◌ ys y ≡ true) × (l x ≡ l y))) → ((y : ℕ) → is_member ◌==◌ ys y ≡ true → (x : ℕ) × ((is_member ◌==◌ xs x ≡ true) × (l y ≡ l x))) → label_count l xs ≡ label_count l ys
@@ -198,10 +197,10 @@ label_count-like l xs ys h k =
     let ge = distinct_count-le_from_within (map l ys) (map l xs) (All-map (λ z. is_member ◌==◌ (map l xs) z ≡ true) l ys (to_All (λ y. is_member ◌==◌ (map l xs) (l y)) ys (λ y m. let t = k y m in ap (is_member ◌==◌ (map l xs)) t.1.1 ∙ is_member-map l xs t.0 t.1.0))) in
     omega (arith, le, ge)
 
-zero_suc : (k : ℕ) → 0 ≡ suc k → ⊥
+pub zero_suc : (k : ℕ) → 0 ≡ suc k → ⊥
 zero_suc k e = omega (arith, e)
 
-suc_suc : (a b : ℕ) → suc a ≡ suc b → a ≡ b
+pub suc_suc : (a b : ℕ) → suc a ≡ suc b → a ≡ b
 suc_suc a b e = omega (arith, e)
 
 wider_below : (n x : ℕ) → x < n + n + (n + n) → wider n x < n + 1 + (n + 1) + (n + 1 + (n + 1))
@@ -265,7 +264,7 @@ module _ (n : ℕ) (p q : List ℕ) (hp : IsPairingOf (n + n) p) (hq : IsPairing
       (λ i b.
       let c : slice_index (label_product n p q) i < n + n = own.stays i b in
       let same : label_of (label_stack n p q) (outer n i) ≡ label_of (label_stack n p q) (outer n (slice_index (label_product n p q) i)) =
-      eqb-true _ _ (tells.tells i (slice_index (label_product n p q) i) (is_below (n + n) i b) (is_below (n + n) _ c) ∙ or_second (i == slice_index (label_product n p q) i) _ (eq-eqb _ _ refl)) in
+      eqb-true _ _ (tells.tells i (slice_index (label_product n p q) i) (is_below (n + n) i b) (is_below (n + n) _ c) ∙ or_right (i == slice_index (label_product n p q) i) _ (eq-eqb _ _ refl)) in
       ap K (sym (wider_outer n i b)) ∙ joined_kept (outer n i) (outer n (slice_index (label_product n p q) i)) same ∙ ap K (wider_outer n (slice_index (label_product n p q) i) c)
       ∙ sym (ap (λ k. K (outer (n + 1) k)) (wide_old n (label_product n p q) own.length_is i b))))
 
@@ -297,7 +296,7 @@ module _ (n : ℕ) (p q : List ℕ) (hp : IsPairingOf (n + n) p) (hq : IsPairing
       (λ e. let s : i ≡ n = eqb-true i n e in let t : n + 1 + (n + 1) - 1 - n ≡ n + 1 = omega arith in
       ap (λ k. mark Ls n (n + 1 + (n + 1) + k)) s ∙ mark_new Ls n _ (new_3 n) ∙ sym (ap (λ k. mark Ls n (n + 1 + (n + 1) - 1 - k)) s ∙ ap (mark Ls n) t ∙ mark_new Ls n (n + 1) (new_2 n)))
       (λ d. let b : i < n = less_than n i d (omega arith) in
-      ap (λ k. mark Ls n (n + 1 + (n + 1) + k)) (sym (moved_same n i b)) ∙ mark_high Ls n i (omega arith) ∙ ap suc (seam_edge n p q hp hq i b) ∙ sym (ap (mark Ls n) (sym (seam_plain n i b)) ∙ mark_low Ls n (n + n - 1 - i) (omega arith)))
+      ap (λ k. mark Ls n (n + 1 + (n + 1) + k)) (sym (moved_low n i b)) ∙ mark_high Ls n i (omega arith) ∙ ap suc (seam_edge n p q hp hq i b) ∙ sym (ap (mark Ls n) (sym (moved_close n i b)) ∙ mark_low Ls n (n + n - 1 - i) (omega arith)))
       (cases_Bool (i == n))))))
 
   marks : (y z : ℕ) → K y ≡ K z → mark Ls n y ≡ mark Ls n z

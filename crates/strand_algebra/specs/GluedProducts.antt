@@ -2,6 +2,7 @@
 -- names of q's top, and names that stand twice are glued.
 --
 --     below_names n            q's points: 0 to 2n-1
+--     above_name n i           the name of p's point i
 --     above_names n            p's points: the bottom has the names of q's top, strand by strand, the top 2n to 3n-1; for
 --                              n = 2 they are 3 2 4 5
 --     left_names n             the names that stand once: 0 to n-1 and 2n to 3n-1
@@ -21,9 +22,13 @@ use Rattle.strand_algebra.specs.StrandPairings.{IsPairingOn, straight, product, 
 abbrev pub below_names : ℕ → List ℕ
 below_names n = range_with_len 0 (n + n)
 
--- p's points: point i of the bottom is glued to point 2n-1-i of q.
+-- Point i of p's bottom is glued to point 2n-1-i of q.
+abbrev pub above_name : ℕ → ℕ → ℕ
+above_name n i = if nat_lt i n then n + n - 1 - i else n + i
+
+-- p's points.
 abbrev pub above_names : ℕ → List ℕ
-above_names n = map (λ i. if nat_lt i n then n + n - 1 - i else n + i) (range_with_len 0 (n + n))
+above_names n = map (above_name n) (range_with_len 0 (n + n))
 
 -- q's bottom and p's top.
 abbrev pub left_names : ℕ → List ℕ

@@ -1,9 +1,7 @@
 -- Adding terms to an element one after another: what is collected from two formal sums, one after the other, is what is
 -- collected from both. A coefficient of an element is the weight that stands at its pairing, since an element is the one with
 -- its coefficients; so the sums at each place decide.
---
--- Others cite: add_more, add_element, add_none, collected_more, add_zeros, add_reduced, increasing, same_or_less, collect_step, zeros, zeros_are, zeros_partners, zeros_filled.
-use Rattle.std.proofs.Common.{◌≡◌, ◌≢◌, ℕ, zero, suc, ◌+◌, ◌%◌, ◌<◌, ◌≤◌, Bool, true, false, cond, if◌then◌else◌, List, [], ◌∷◌, ◌++◌, append_assoc, append-nil, map, take, take_all, length, get_or, refl, sym, ap, ap₂, ◌∙◌, arith, subst, ⊎_elim, All, Ordering, Less, Equal, Greater, get_or-set_other, get_or-set_same}
+use Rattle.std.proofs.Common.{◌≡◌, ◌≢◌, ℕ, zero, suc, ◌+◌, ◌%◌, ◌<◌, ◌≤◌, Bool, true, false, cond, List, [], ◌∷◌, ◌++◌, append_assoc, append-nil, map, take, take_all, length, get_or, refl, sym, ap, ap₂, ◌∙◌, arith, subst, All, Ordering, Less, Equal, Greater, get_or-set_other, get_or-set_same}
 use Rattle.std.specs.List.{AllByRecursion}
 use Rattle.std.specs.List.Sorted.{IsStrictlySortedBy}
 use Rattle.std.specs.Cmp.Lexicographic.{slice_cmp}
@@ -11,26 +9,24 @@ use Rattle.std.specs.Ordering.{nat_cmp}
 use Rattle.std.specs.Str.{bytes_eq}
 use Rattle.std.proofs.Math.Nat.{mod-add-mod, add-mod, mod-mod, mod-eq_of_lt}
 use Rattle.std.proofs.Math.ListN.{set, length-set}
-use Rattle.std.proofs.lemmas.Bool.{false≢true, cases_Bool}
+use Rattle.std.proofs.lemmas.Bool.{false≢true, false_from_ne_true}
 use Rattle.std.proofs.lemmas.Slice.Eq.{bytes_eq-Decides}
 use Rattle.std.proofs.lemmas.List.{get_or_default, same_lists, length-map, get_or-map}
 use Rattle.std.proofs.lemmas.List.Elements.{All-head, All-tail}
-use Rattle.std.proofs.lemmas.List.Sums.{sum_by-append, sum_by-cons}
+use Rattle.std.proofs.lemmas.List.Sums.{sum_by-cons}
 use Rattle.state_sums.specs.Networks.{Term}
 use Rattle.arc_gluing.proofs.OneEdge.{same_or_not}
 use Rattle.strand_algebra.specs.Elements.{IsElement, coefficient, collected, add}
 use Rattle.strand_algebra.specs.Laws.{nothing}
 use Rattle.strand_algebra.specs.Noncrossing.{noncrossing}
-use Rattle.strand_algebra.proofs.Collecting.{IsElement-collected, coefficient_below}
+use Rattle.strand_algebra.proofs.Collecting.{picked, coefficient-append, IsElement-collected, coefficient_below}
+use Rattle.strand_algebra.proofs.Operations.{IsElement-add}
 use Rattle.strand_algebra.proofs.NoncrossingLists.{order_same, noncrossing_sorted}
 use Rattle.strand_algebra.proofs.ElementLaws.{element_collected}
 
 -- the collected term at p
 abbrev pub at_pairing : ℕ → List Term → List ℕ → Term
 at_pairing m x p = record { weight = coefficient x p % m; partner = p }
-
-no_term : Term
-no_term = record { weight = 0; partner = [] }
 
 -- the term at a place is the collected one at its pairing
 pub element_is : (m n : ℕ) (x : List Term) (j : ℕ) (d : Term) → 0 < m → IsElement m n x → j < length x → get_or x j d ≡ at_pairing m x (get_or x j d).partner
@@ -57,13 +53,6 @@ collected_same : (m n : ℕ) (x y : List Term) → ((j : ℕ) (d : List ℕ) →
 collected_same m n x y h =
     map_same (at_pairing m x) (at_pairing m y) (noncrossing n) (λ j d l. ap (λ w. record { weight = w; partner = get_or (noncrossing n) j d }) (h j d l))
 
--- the weight of a term at p
-abbrev pub picked : List ℕ → Term → ℕ
-picked p term = if bytes_eq p term.partner then term.weight else 0
-
-pub coefficient-append : (x y : List Term) (p : List ℕ) → coefficient (x ++ y) p ≡ coefficient x p + coefficient y p
-coefficient-append x y p = sum_by-append (picked p) x y
-
 pub coefficient-single : (t : Term) (p : List ℕ) → coefficient (t ∷ []) p ≡ picked p t
 coefficient-single t p = let c = sum_by-cons (picked p) t [] in omega (arith, c)
 
@@ -85,9 +74,6 @@ add_more m n x y z h =
     ap (λ k. k % m) (coefficient-append (add m n x y) z p ∙ ap (λ k. k + coefficient z p) (collected_at m n (x ++ y) j d h l))
     ∙ mod-add-mod (coefficient (x ++ y) p) m (coefficient z p)
     ∙ ap (λ k. k % m) (sym (coefficient-append (x ++ y) z p) ∙ ap (λ ts. coefficient ts p) (append_assoc x y z)))
-
-pub add_element : (m n : ℕ) (x y : List Term) → 0 < m → IsElement m n (add m n x y)
-add_element m n x y h = IsElement-collected m n (x ++ y) h
 
 pub add_none : (m n : ℕ) (x : List Term) → 0 < m → IsElement m n x → add m n x [] ≡ x
 add_none m n x h e = ap (collected m n) (append-nil x) ∙ element_collected m n x h e
@@ -173,9 +159,6 @@ places_differ m n x i j d e k l differ same =
     (λ b. less_differs (get_or (noncrossing n) j d.partner) (get_or (noncrossing n) i d.partner) (increasing (noncrossing n) j i d.partner (noncrossing_sorted n) b (omega (arith, k, long))) at)
     (λ b. less_differs (get_or (noncrossing n) i d.partner) (get_or (noncrossing n) j d.partner) (increasing (noncrossing n) i j d.partner (noncrossing_sorted n) b (omega (arith, l, long))) (sym at))
 
-from_refuted : (b : Bool) → (b ≡ true → ⊥) → b ≡ false
-from_refuted b h = ⊎_elim (λ t. absurd (h t)) (λ f. f) (cases_Bool b)
-
 -- A WRITE AT THE PLACE OF A PAIRING
 module _ (m n : ℕ) (x : List Term) (i a w : ℕ) (p : List ℕ) (h : 0 < m) (e : IsElement m n x) (l : i < length x)
     (weight_is : (d : Term) → a ≡ (get_or x i d).weight) (partner_is : (d : Term) → p ≡ (get_or x i d).partner) where
@@ -205,7 +188,7 @@ module _ (m n : ℕ) (x : List Term) (i a w : ℕ) (p : List ℕ) (h : 0 < m) (e
   put_elsewhere : (j : ℕ) (d : Term) → j < length x → j ≢ i → get_or (set x i written) j d ≡ get_or (add m n x (new ∷ [])) j d
   put_elsewhere j d k differ =
       let q = (get_or x j d).partner in
-      let other : bytes_eq q p ≡ false = from_refuted (bytes_eq q p) (λ t. places_differ m n x i j d e l k differ ((bytes_eq-Decides q p).0 t ∙ partner_is d)) in
+      let other : bytes_eq q p ≡ false = false_from_ne_true (bytes_eq q p) (λ t. places_differ m n x i j d e l k differ ((bytes_eq-Decides q p).0 t ∙ partner_is d)) in
       let there : coefficient (x ++ new ∷ []) q ≡ coefficient x q = sum_at q ∙ ap (λ b. coefficient x q + cond b w 0) other ∙ omega arith in
       get_or-set_other x i j written d differ
       ∙ element_is m n x j d h e k
@@ -220,7 +203,7 @@ module _ (m n : ℕ) (x : List Term) (i a w : ℕ) (p : List ℕ) (h : 0 < m) (e
 
   pub put_weight : set x i written ≡ add m n x (new ∷ [])
   put_weight =
-      let whole = add_element m n x (new ∷ []) h in
+      let whole = IsElement-add m n x (new ∷ []) h in
       same_lists (set x i written) (add m n x (new ∷ []))
       (length-set x i written ∙ element_length m n x e ∙ sym (element_length m n (add m n x (new ∷ [])) whole)) put_at
 

@@ -2,8 +2,7 @@ pub mod ShortPairings
 pub mod NestedLists
 pub mod AddedTerms
 pub mod PairingPlaces
-pub mod GluedStacks
-pub mod StrandSeams
+pub mod Seams
 pub mod TermLoops
 pub mod Rows
-pub mod GluedClosures
+pub mod ClosureSums

@@ -1,9 +1,8 @@
 -- The list of noncrossing pairings, one number of points between point 0 and its partner after the other.
---
--- Others cite: nested_pairing, nested_length, all_noncrossing_at, around, noncrossing_round, range_more, round_more.
 use Rattle.std.proofs.Common.{◌≡◌, ℕ, zero, suc, ◌+◌, ◌-◌, ◌<◌, ◌≤◌, List, [], ◌∷◌, ◌++◌, map, length, length-append, refl, sym, ap, ap₂, ◌∙◌, arith, subst, All}
 use Rattle.std.specs.List.{flat_map, range_with_len}
 use Rattle.std.proofs.lemmas.List.{length-map, flat_map_more}
+use Rattle.list_lemmas.proofs.Ranges.{range_push}
 use Rattle.state_sums.specs.Networks.{IsPairing}
 use Rattle.strand_algebra.specs.Laws.{IsNoncrossingOn}
 use Rattle.strand_algebra.specs.Noncrossing.{nested, noncrossing_within, noncrossing}
@@ -62,15 +61,7 @@ noncrossing_round (suc n) h =
     ∙ ap₂ (λ xs ys. flat_map (λ inside. map (λ behind. nested k inside behind) xs) ys)
     (deep_enough (n - k) n (n - k) (omega arith) (omega arith)) (deep_enough k n k (omega arith) (omega arith)))
 
-pub range_more : (a n : ℕ) → range_with_len a (n + 1) ≡ range_with_len a n ++ (a + n) ∷ []
-range_more a zero = let z : a ≡ a + 0 = omega arith in ap (λ k. k ∷ []) z
-range_more a (suc n) =
-    let z : a + 1 + n ≡ a + suc n = omega arith in
-    let y : suc n + 1 ≡ suc (n + 1) = omega arith in
-    ap (range_with_len a) y ∙ ap (λ xs. a ∷ xs) (range_more (a + 1) n ∙ ap (λ k. range_with_len (a + 1) n ++ k ∷ []) z)
-
 pub round_more : (n k : ℕ) → flat_map (around n) (range_with_len 0 (k + 1)) ≡ flat_map (around n) (range_with_len 0 k) ++ around n k
 round_more n k =
-    let z : 0 + k ≡ k = omega arith in
-    ap (flat_map (around n)) (range_more 0 k ∙ ap (λ i. range_with_len 0 k ++ i ∷ []) z)
+    ap (flat_map (around n)) (range_push k)
     ∙ sym (flat_map_more (around n) [] (range_with_len 0 k) k)

@@ -1,6 +1,4 @@
 -- A binary search among the terms of an element finds each noncrossing pairing, since the list has it and increases.
---
--- Others cite: terms_noncrossing, search_finds, found_partner.
 use Rattle.std.proofs.Common.{◌≡◌, ℕ, zero, suc, ◌+◌, ◌<◌, ◌≤◌, false, List, map, length, get_or, refl, sym, ap, ap₂, ◌∙◌, arith, subst, All, Less, Equal, Greater, Result, Ok, Err}
 use Rattle.std.specs.Cmp.{IsTotalOrder}
 use Rattle.std.specs.Cmp.Lexicographic.{slice_cmp, lists_total}

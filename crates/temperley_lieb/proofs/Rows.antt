@@ -1,6 +1,4 @@
 -- The rows of a product: one term of the upper element on each of the lower one's.
---
--- Others cite: worth_is, no_weight_below, row, row_added, row_skipped, same_product, same_worth.
 use Rattle.std.proofs.Common.{◌≡◌, ℕ, ◌+◌, ◌*◌, ◌%◌, ◌^◌, ◌<◌, ◌≤◌, List, [], ◌∷◌, ◌++◌, map, take, take_all, length, get_or, pos, ◌*ℤ◌, sym, ap, ap₂, ◌∙◌, arith}
 use Rattle.std.specs.List.{flat_map}
 use Rattle.std.proofs.lemmas.Nat.{mul-mod_second}

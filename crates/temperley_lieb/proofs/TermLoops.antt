@@ -1,17 +1,16 @@
 -- The loops that collect terms one by one: after i of them, the element is z and the first i terms.
 --
 --     IsSumSo m n z f xs i element      the element on n strands that is z and what f makes of the first i terms of xs
---
--- Others cite: IsSumSo, started, one_more, one_skipped, below_sum, at_strands, read_below, single_term, nothing_started, nothing_ended, below_so, first_added, both_added, element_read, term_noncrossing, term_below.
-use Rattle.std.proofs.Common.{◌≡◌, ℕ, ◌+◌, ◌%◌, ◌<◌, ◌≤◌, List, [], ◌∷◌, ◌++◌, map, take, take_all, length, get_or, refl, sym, ap, ap₂, ◌∙◌, arith, subst, All}
+use Rattle.std.proofs.Common.{◌≡◌, ℕ, ◌+◌, ◌%◌, ◌<◌, ◌≤◌, List, [], ◌∷◌, ◌++◌, map, take, take_all, length, get_or, sym, ap, ap₂, ◌∙◌, arith, subst, All}
 use Rattle.std.proofs.lemmas.List.{map_more}
 use Rattle.std.proofs.lemmas.List.Elements.{All-nil, All-cons}
 use Rattle.state_sums.specs.Networks.{Term}
 use Rattle.strand_algebra.specs.Elements.{IsElement, collected, add}
 use Rattle.strand_algebra.specs.Laws.{IsNoncrossingOn}
 use Rattle.strand_algebra.proofs.Collecting.{IsElement-collected}
+use Rattle.strand_algebra.proofs.Operations.{IsElement-add}
 use Rattle.temperley_lieb.specs.Elements.{Element, AreBelow, element_of}
-use Rattle.temperley_lieb.proofs.AddedTerms.{add_more, add_element, add_none, add_zeros, add_reduced, collected_more}
+use Rattle.temperley_lieb.proofs.AddedTerms.{add_more, add_none, add_zeros, add_reduced, collected_more}
 
 -- z and what f makes of the first i terms
 abbrev pub IsSumSo : ℕ → ℕ → List Term → (Term → Term) → List Term → ℕ → Element → Type 0
@@ -41,7 +40,7 @@ pub one_skipped : (m n : ℕ) (z : List Term) (f : Term → Term) (xs : List Ter
 one_skipped m n z f xs i t old h l read so none =
     so
     ∙ ap (element_of n)
-    (sym (add_zeros m n (add m n z (map f (take i xs))) (f t ∷ []) h (add_element m n z (map f (take i xs)) h) (All-cons (λ term. term.weight ≡ 0) (f t) [] none (All-nil (λ term. term.weight ≡ 0))))
+    (sym (add_zeros m n (add m n z (map f (take i xs))) (f t ∷ []) h (IsElement-add m n z (map f (take i xs)) h) (All-cons (λ term. term.weight ≡ 0) (f t) [] none (All-nil (λ term. term.weight ≡ 0))))
     ∙ add_more m n z (map f (take i xs)) (f t ∷ []) h
     ∙ ap (add m n z) (sym (read_more f xs i t l read)))
 
@@ -54,7 +53,7 @@ collected_whole m n y element h is = is ∙ ap (element_of n) (collected_more m 
 
 -- ---- what a call of `collect` asks
 pub below_sum : (m n : ℕ) (z y : List Term) (element : Element) → 0 < m → element ≡ element_of n (add m n z y) → AreBelow m element
-below_sum m n z y element h is = subst (AreBelow m) (sym is) (add_element m n z y h).below
+below_sum m n z y element h is = subst (AreBelow m) (sym is) (IsElement-add m n z y h).below
 
 pub at_strands : (n : ℕ) (x p : List ℕ) (y : List Term) (element : Element) → element ≡ element_of n y → x ≡ p → IsNoncrossingOn n p → IsNoncrossingOn element.strands x
 at_strands n x p y element is e h =
@@ -67,10 +66,6 @@ read_noncrossing n xs i t l read h = let P : Term → Type 0 = λ term. IsNoncro
 
 pub read_below : (m : ℕ) (xs : List Term) (i : ℕ) (t : Term) → i < length xs → t ≡ get_or xs i t → All (λ term. term.weight < m) xs → t.weight < m
 read_below m xs i t l read h = let P : Term → Type 0 = λ term. term.weight < m in subst P (sym read) (h i t l)
-
-pub map_id : (xs : List Term) → map (λ t. t) xs ≡ xs
-map_id [] = refl
-map_id (x ∷ xs) = ap (λ ys. x ∷ ys) (map_id xs)
 
 -- a single term in nothing else
 pub single_term : (m k n : ℕ) (e new : Element) (p q : List ℕ) → 0 < m → e ≡ element_of n (collected m n []) →

@@ -1,18 +1,18 @@
 //! One pairing on another, and the loops of a closed pairing.
 
 ghost use Rattle.std.specs.Prelude.{◌≡◌, ◌<◌, ◌≤◌, ◌+◌};
-ghost use Rattle.std.specs.List.{range_with_len};
+ghost use Rattle.strand_algebra.specs.GluedProducts.{below_names, above_name, above_names};
 ghost use Rattle.strand_algebra.specs.StrandPairings.{IsPairingOn, straight, product, product_loops, closure_loops};
-ghost use Rattle.temperley_lieb.specs.Stacks.{upper_name, upper_names, strand_seam, closing_seam};
+ghost use Rattle.temperley_lieb.specs.Stacks.{strand_seam, closing_seam};
 
 use crate::strands::straight;
 use arc_pairing::{Glued, Pairing, Seam, Turns, glue};
 use arrayvec::ArrayVec;
 
-/// The names from 0 on, of 2n points.
-fn names(strands: u32) -> ArrayVec<u32, 24>
+/// The names of the points of the lower pairing, or of a single one: from 0 on.
+fn below_names(strands: u32) -> ArrayVec<u32, 24>
     requires { strands ≤ 8 }
-    ensures { result.items ≡ range_with_len 0 (strands + strands) }
+    ensures { result.items ≡ below_names strands }
 {
     let mut names = ArrayVec::new();
     for name in 0..strands + strands {
@@ -21,28 +21,28 @@ fn names(strands: u32) -> ArrayVec<u32, 24>
     names
 }
 
-/// The name of point `at` of the upper pairing.
-fn upper_name(strands: u32, at: u32) -> u32
+/// The name of point `at` of the upper pairing: a point of its bottom has the name of the point of the lower
+/// pairing's top that it is joined with.
+fn above_name(strands: u32, at: u32) -> u32
     requires few { strands ≤ 8 }
     requires in_range { at < strands + strands }
-    ensures { result ≡ upper_name strands at }
+    ensures { result ≡ above_name strands at }
 {
-    let points = strands + strands;
     if at < strands {
-        points - 1 - at
+        strands + strands - 1 - at
     } else {
-        points + at
+        strands + at
     }
 }
 
 /// The names of the points of the upper pairing.
-fn upper_names(strands: u32) -> ArrayVec<u32, 24>
+fn above_names(strands: u32) -> ArrayVec<u32, 24>
     requires { strands ≤ 8 }
-    ensures { result.items ≡ upper_names strands }
+    ensures { result.items ≡ above_names strands }
 {
     let mut names = ArrayVec::new();
     for at in 0..strands + strands {
-        names.push(upper_name(strands, at));
+        names.push(above_name(strands, at));
     }
     names
 }
@@ -62,7 +62,11 @@ impl Stack {
         requires { strands ≤ 8 }
         ensures { result.strands ≡ strands }
     {
-        let seam = Seam::of(names(strands).as_slice(), upper_names(strands).as_slice()).unwrap();
+        let seam = Seam::of(
+            below_names(strands).as_slice(),
+            above_names(strands).as_slice(),
+        )
+        .unwrap();
         Stack { strands, seam }
     }
 
@@ -95,7 +99,11 @@ impl Closing {
         requires { strands ≤ 8 }
         ensures { result.strands ≡ strands }
     {
-        let seam = Seam::of(names(strands).as_slice(), names(strands).as_slice()).unwrap();
+        let seam = Seam::of(
+            below_names(strands).as_slice(),
+            below_names(strands).as_slice(),
+        )
+        .unwrap();
         Closing {
             strands,
             across: straight(strands),

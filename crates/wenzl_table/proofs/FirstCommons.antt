@@ -1,6 +1,4 @@
 -- At most one index is the first at which Delta_index shares a factor with m, and there is none where all inverses exist.
---
--- Others cite: refused, made, no_memory.
 use Rattle.std.proofs.Common.{◌≡◌, ℕ, ◌<◌, ◌↔◌, Result, Ok, Err, sym, ap₂, subst}
 use Rattle.wenzl_table.specs.declared.fault.WenzlFault.{WenzlFault}
 use Rattle.wenzl_table.specs.declared.fault.WenzlFault.TheVariants.{NoInverse, Memory}

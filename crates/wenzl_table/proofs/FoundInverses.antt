@@ -1,6 +1,4 @@
 -- The loop over the inverses: what holds of each index before, and of this one, holds of all up to it.
---
--- Others cite: up_to, put_inverse, put_below.
 use Rattle.std.proofs.Common.{◌≡◌, ◌≢◌, ℕ, ◌+◌, ◌<◌, List, length, slice_index, slice_set, sym, subst, arith, get_or-set_other, get_or-set_same}
 use Rattle.ring_identities.specs.Powers.{IsInverse}
 use Rattle.root_quantum.specs.Parameters.{Parameters}

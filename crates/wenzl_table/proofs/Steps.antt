@@ -1,6 +1,4 @@
 -- Wenzl's recursion, step by step.
---
--- Others cite: positive, few_strands, delta_is, wenzl_factor_is, round_is, next_made, colour_more, first_colour, projector_below.
 use Rattle.std.proofs.Common.{◌≡◌, ℕ, zero, suc, ◌+◌, ◌-◌, ◌<◌, ◌≤◌, List, slice_index, pos, ◌*ℤ◌, neg_ℤ, refl, sym, ap, ap₂, ◌∙◌, arith}
 use Rattle.ring_identities.specs.Residues.{residue}
 use Rattle.ring_identities.proofs.Congruences.{congruent_negative, congruent_sym, residue_congruent, same_residue}

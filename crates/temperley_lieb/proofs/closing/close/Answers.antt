@@ -3,7 +3,7 @@ use Rattle.ring_identities.specs.Residues.{residue}
 use Rattle.ring_identities.specs.Powers.{power}
 use Rattle.state_sums.specs.Networks.{Term}
 use Rattle.strand_algebra.specs.StrandPairings.{closure_loops}
-use Rattle.temperley_lieb.proofs.GluedClosures.{closure_step}
+use Rattle.temperley_lieb.proofs.ClosureSums.{closure_step}
 use Rattle.temperley_lieb.proofs.closing.close.Goals as goal
 
 pub loop-term-preserved : goal.loop-term-preserved

@@ -3,8 +3,9 @@ use Rattle.std.proofs.Common.{◌≡◌, ◌+◌, ◌<◌, ◌%◌, List, [], �
 use Rattle.ring_identities.specs.Residues.{residue}
 use Rattle.state_sums.specs.Networks.{Term}
 use Rattle.strand_algebra.specs.Elements.{IsElement, add}
+use Rattle.strand_algebra.proofs.Operations.{IsElement-add}
 use Rattle.temperley_lieb.specs.Elements.{Element, IsWhole, element_of}
-use Rattle.temperley_lieb.proofs.AddedTerms.{collect_step, add_element}
+use Rattle.temperley_lieb.proofs.AddedTerms.{collect_step}
 use Rattle.temperley_lieb.proofs.collecting.collect.Goals as goal
 
 whole : (c : goal.After-sum-1) → IsElement c.args.ring.now c.sum.inside.strands c.sum.inside.terms.items
@@ -36,7 +37,7 @@ invariant_of-sum c =
     let P : List Term → Type 0 = λ y. IsWhole (element_of n y) in
     subst P (sym (step c)) record {
       few = c.sum.invariant.few;
-      partners = (add_element c.args.ring.now n c.sum.inside.terms.items (record { weight = c.args.weight; partner = c.args.pairing.now } ∷ []) (omega arith)).partners;
+      partners = (IsElement-add c.args.ring.now n c.sum.inside.terms.items (record { weight = c.args.weight; partner = c.args.pairing.now } ∷ []) (omega arith)).partners;
     }
 
 pub returns-clause-value : goal.returns-clause-value

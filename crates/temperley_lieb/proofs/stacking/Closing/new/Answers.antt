@@ -1,39 +1,39 @@
-use Rattle.std.proofs.Common.{ℕ, ◌≡◌, ◌+◌, ◌≤◌, ◌++◌, List, [], sym, ap₂, subst, ◌∙◌}
-use Rattle.std.specs.List.{range_with_len}
+use Rattle.std.proofs.Common.{ℕ, ◌≡◌, ◌≤◌, ◌++◌, List, [], sym, ap₂, subst, ◌∙◌}
 use Rattle.std.specs.List.Sorted.{IsStrictlyIncreasing}
 use Rattle.list_lemmas.specs.Times.{times_in}
 use Rattle.arc_gluing.specs.Pairings.{AreOpen}
 use Rattle.arc_pairing.specs.Gluing.{single_count}
-use Rattle.temperley_lieb.proofs.StrandSeams.{increasing_names, few_closing_names, few_closing_left, closing_left, not_wide, seam_is}
+use Rattle.strand_algebra.specs.GluedProducts.{below_names}
+use Rattle.strand_algebra.proofs.StrandSeams.{strand_seam, few_doubled, none_left}
+use Rattle.temperley_lieb.proofs.Seams.{few_closing_left, not_wide, seam_is}
 use Rattle.temperley_lieb.proofs.stacking.Closing.new.Goals as goal
 
-all_is : (n : ℕ) (names ends : List ℕ) → names ≡ range_with_len 0 (n + n) → ends ≡ range_with_len 0 (n + n) → names ++ ends ≡ range_with_len 0 (n + n) ++ range_with_len 0 (n + n)
+all_is : (n : ℕ) (names ends : List ℕ) → names ≡ below_names n → ends ≡ below_names n → names ++ ends ≡ below_names n ++ below_names n
 all_is n names ends a b = ap₂ (λ xs ys. xs ++ ys) a b
 
 pub of-requires-clause-increasing : goal.of-requires-clause-increasing
 of-requires-clause-increasing c =
-    let n = c.args.strands in
     let P : List ℕ → Type 0 = λ xs. IsStrictlyIncreasing xs in
-    subst P (sym (c.as_slice.ensures.value ∙ c.names.ensures)) (increasing_names 0 (n + n))
+    subst P (sym (c.as_slice.ensures.value ∙ c.below_names.ensures)) (strand_seam c.args.strands).increasing
 
 pub of-requires-clause-few : goal.of-requires-clause-few
 of-requires-clause-few c =
     let n = c.args.strands in
     let P : List ℕ → Type 0 = λ xs. (x : ℕ) → times_in xs x ≤ 2 in
-    subst P (sym (all_is n c.as_slice.result.now c.as_slice-2.result.now (c.as_slice.ensures.value ∙ c.names.ensures) (c.as_slice-2.ensures.value ∙ c.names-2.ensures))) (few_closing_names n c.requires)
+    subst P (sym (all_is n c.as_slice.result.now c.as_slice-2.result.now (c.as_slice.ensures.value ∙ c.below_names.ensures) (c.as_slice-2.ensures.value ∙ c.below_names-2.ensures))) (few_doubled n)
 
 pub unwrap-seam-requires : goal.unwrap-seam-requires
 unwrap-seam-requires c =
     let n = c.args.strands in
     not_wide (single_count (c.as_slice.result.now ++ c.as_slice-2.result.now)) c.of.result c.of.ensures.wide
     (let P : List ℕ → Type 0 = λ xs. single_count xs ≤ 24 in
-    subst P (sym (all_is n c.as_slice.result.now c.as_slice-2.result.now (c.as_slice.ensures.value ∙ c.names.ensures) (c.as_slice-2.ensures.value ∙ c.names-2.ensures))) (few_closing_left n c.requires))
+    subst P (sym (all_is n c.as_slice.result.now c.as_slice-2.result.now (c.as_slice.ensures.value ∙ c.below_names.ensures) (c.as_slice-2.ensures.value ∙ c.below_names-2.ensures))) (few_closing_left n c.requires))
 
 pub invariant_of-result : goal.invariant_of-result
 invariant_of-result c =
     let n = c.args.strands in
-    let names = c.as_slice.ensures.value ∙ c.names.ensures in
-    let ends = c.as_slice-2.ensures.value ∙ c.names-2.ensures in
+    let names = c.as_slice.ensures.value ∙ c.below_names.ensures in
+    let ends = c.as_slice-2.ensures.value ∙ c.below_names-2.ensures in
     record {
       few = c.requires;
       closes = c.straight.ensures;
@@ -41,6 +41,6 @@ invariant_of-result c =
           seam_is c.as_slice.result.now c.as_slice-2.result.now [] c.of.result c.unwrap-seam.result c.unwrap-seam.ensures c.of.ensures.made c.of.ensures.left c.of.ensures.ascending
           (λ found are_open up.
           let P : List ℕ → Type 0 = λ xs. AreOpen xs found in
-          closing_left n found c.requires (subst P (all_is n c.as_slice.result.now c.as_slice-2.result.now names ends) are_open) up)
+          none_left n found (subst P (all_is n c.as_slice.result.now c.as_slice-2.result.now names ends) are_open))
           ∙ ap₂ (λ xs ys. record { inner = xs; ends = ys; outer = [] }) names ends;
     }

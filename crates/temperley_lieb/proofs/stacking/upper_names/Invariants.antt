@@ -1,7 +1,0 @@
-use Rattle.std.proofs.Common.{◌≡◌, map}
-use Rattle.std.specs.List.{range_with_len}
-use Rattle.temperley_lieb.specs.Stacks.{upper_name}
-use Rattle.temperley_lieb.proofs.stacking.upper_names.Given as goal
-
-abbrev pub invariant-loop-at : goal.invariant-loop-at
-invariant-loop-at l = l.names.items ≡ map (upper_name l.strands) (range_with_len 0 l.at)
