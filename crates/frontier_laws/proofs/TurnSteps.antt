@@ -12,6 +12,8 @@ use Rattle.arc_pairing.specs.Gluing.{Seam}
 use Rattle.frontier_laws.specs.Orders.{node_at}
 use Rattle.frontier_laws.specs.Tables.{contribution, contributions}
 use Rattle.frontier_laws.specs.Turns.{pairing_count, turns_of, open_count, IsWithinAt, IsWithin, IsWideAt, IsFullAt}
+use Rattle.list_lemmas.proofs.Sums.{sum_range}
+use Rattle.list_lemmas.proofs.Ranges.{range_more}
 
 -- Each entry and each term give one item.
 pub items_length : (delta : ℕ) (seam : Seam) (terms : List Term) (table : List (ℕ × ℕ)) → length (contributions delta seam terms table) ≡ length table * length terms
@@ -23,20 +25,6 @@ items_length delta seam terms (entry ∷ table) =
     omega (arith, one, both, ih)
 
 -- ---- turns
-pub range_more : (a n : ℕ) → range_with_len a (suc n) ≡ range_with_len a n ++ (a + n) ∷ []
-range_more a zero = ap (λ k. k ∷ []) (let e : a ≡ a + 0 = omega arith in e)
-range_more a (suc n) =
-    ap (λ ks. a ∷ ks) (range_more (a + 1) n) ∙ ap (λ k. a ∷ (range_with_len (a + 1) n ++ k ∷ [])) (let e : (a + 1) + n ≡ a + suc n = omega arith in e)
-
-sum_range : (f g : ℕ → ℕ) (a n : ℕ) → ((k : ℕ) → k < a + n → f k ≡ g k) → sum_by f (range_with_len a n) ≡ sum_by g (range_with_len a n)
-sum_range f g a zero h = refl
-sum_range f g a (suc n) h =
-    let here = h a (omega arith) in
-    let rest = sum_range f g (a + 1) n (λ k l. h k (omega (arith, l))) in
-    let c = sum_by-cons f a (range_with_len (a + 1) n) in
-    let d = sum_by-cons g a (range_with_len (a + 1) n) in
-    omega (arith, here, rest, c, d)
-
 length_more : (nodes : List Node) (node : Node) → length (nodes ++ node ∷ []) ≡ suc (length nodes)
 length_more nodes node = let e = length-append nodes (node ∷ []) in omega (arith, e)
 

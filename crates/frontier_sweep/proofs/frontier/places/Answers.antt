@@ -1,5 +1,5 @@
 use Rattle.std.proofs.Common.{◌++◌, ◌∷◌, [], ap, sym, ◌∙◌, List, ℕ}
-use Rattle.frontier_sweep.proofs.FrontierLemmas.{range_push}
+use Rattle.list_lemmas.proofs.Ranges.{range_push}
 use Rattle.frontier_sweep.proofs.frontier.places.Goals as goal
 
 pub loop-place-preserved : goal.loop-place-preserved
