@@ -16,7 +16,8 @@ use Rattle.arc_pairing.specs.Gluing.{single_count}
 use Rattle.arc_pairing.proofs.SeamLists.{increasing_permuted}
 use Rattle.frontier_laws.specs.Orders.{increasing, open_names}
 use Rattle.frontier_laws.specs.Turns.{open_count}
-use Rattle.frontier_laws.proofs.OpenNamesSorted.{times_increasing, length_increasing, non_decreasing_increasing, one_increasing}
+use Rattle.frontier_laws.proofs.OpenNamesSorted.{times_increasing, length_increasing, non_decreasing_increasing}
+use Rattle.list_lemmas.proofs.Increasing.{one_increasing}
 use Rattle.state_sums.specs.LocalSums.{open_names_in}
 
 -- The names that stand once in a list, increasing.

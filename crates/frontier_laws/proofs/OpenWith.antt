@@ -9,33 +9,28 @@ use Rattle.std.proofs.lemmas.List.Sums.{sum_by-append}
 use Rattle.state_sums.specs.Networks.{Node}
 use Rattle.graph_parts.proofs.PartLaws.{count_by_all}
 use Rattle.list_lemmas.specs.Times.{times_in}
-use Rattle.list_lemmas.proofs.Times.{times_of_member, member_of_times, times_in-append}
+use Rattle.list_lemmas.proofs.Times.{times_of_member, member_of_times, times_in-append, times_none}
 use Rattle.arc_pairing.specs.Gluing.{single_count}
 use Rattle.frontier_laws.specs.Orders.{open_names}
 use Rattle.frontier_laws.proofs.OpenNames.{AreOpen-open_names}
 
 -- A name that is no member stands nowhere.
-times_none : (xs : List ℕ) (x : ℕ) → is_member ◌==◌ xs x ≡ false → times_in xs x ≡ 0
-times_none xs x none = let m = member_of_times x xs in grind (arith, none, m)
-
-times_some : (xs : List ℕ) (x : ℕ) → is_member ◌==◌ xs x ≡ true → 1 ≤ times_in xs x
-times_some xs x some = times_of_member x xs some
 
 module _ (names ends : List ℕ) (once : (x : ℕ) → times_in names x ≤ 1) where
   kept : (x : ℕ) → is_member ◌==◌ names x ≡ true → (times_in (names ++ ends) x == 1) ≡ not (is_member ◌==◌ ends x)
   kept x member =
       let a = times_in-append names ends x in
       let o = once x in
-      let s = times_some names x member in
-      let yes = times_some ends x in
+      let s = times_of_member x names member in
+      let yes = times_of_member x ends in
       let none = times_none ends x in
       grind (arith, nat_tests, a, o, s, yes, none)
 
   new : (x : ℕ) → is_member ◌==◌ ends x ≡ true → (times_in (names ++ ends) x == 1) ≡ (not (is_member ◌==◌ names x) && (times_in ends x == 1))
   new x member =
       let a = times_in-append names ends x in
-      let s = times_some ends x member in
-      let yes = times_some names x in
+      let s = times_of_member x ends member in
+      let yes = times_of_member x names in
       let none = times_none names x in
       grind (arith, nat_tests, a, s, yes, none)
 

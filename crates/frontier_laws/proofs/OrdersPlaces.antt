@@ -14,11 +14,11 @@ use Rattle.std.proofs.lemmas.List.Sorted.{length_permutation}
 use Rattle.graph_parts.proofs.Distinct.{is_member-append}
 use Rattle.graph_parts.proofs.Numbered.{is_member-numbered, numbered-member}
 use Rattle.list_lemmas.specs.Times.{times_in}
-use Rattle.list_lemmas.proofs.Times.{times_of_member, member_of_times, times_in-append}
+use Rattle.list_lemmas.proofs.Times.{times_of_member, member_of_times, times_in-append, times_in-cons, times_in-filter}
 use Rattle.list_lemmas.proofs.Items.{member_at}
 use Rattle.arc_gluing.proofs.Seamed.{range_times}
 use Rattle.frontier_laws.specs.Orders.{left_after, IsPartOrder}
-use Rattle.frontier_laws.proofs.OpenNamesSorted.{times_cons, times_filter, permuted_times}
+use Rattle.list_lemmas.proofs.Permuted.{permuted_times}
 
 -- At first no place is taken.
 pub IsPartOrder-none : (count : ℕ) → IsPartOrder count []
@@ -34,7 +34,7 @@ times_range count place =
 
 times_left : (count : ℕ) (order : List ℕ) (place : ℕ) → times_in (left_after count order) place ≡ cond (not (is_member ◌==◌ order place)) (cond (nat_lt place count) 1 0) 0
 times_left count order place =
-    times_filter (λ other. not (is_member ◌==◌ order other)) (range_with_len 0 count) place
+    times_in-filter (λ other. not (is_member ◌==◌ order other)) (range_with_len 0 count) place
     ∙ ap (λ times. cond (not (is_member ◌==◌ order place)) times 0) (times_range count place)
 
 -- A place that is left is below count, and not in the order.
@@ -52,7 +52,7 @@ IsPartOrder-more count order place h m =
       below = All-push (λ other. other < count) order place h.below left.0;
       once = λ other.
           let a = times_in-append order (place ∷ []) other in
-          let b = times_cons place [] other in
+          let b = times_in-cons place [] other in
           let few = h.once other in
           let none : other ≡ place → times_in order other ≡ 0 = (λ same.
           let only = member_of_times other order in

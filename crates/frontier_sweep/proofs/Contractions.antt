@@ -22,8 +22,8 @@ use Rattle.frontier_laws.proofs.TurnSteps.{within_none}
 use Rattle.frontier_sweep.specs.Frontiers.{Frontier, IsFrontier, IsLimitAfter}
 use Rattle.frontier_sweep.specs.Sweeps.{IsStopped, stopped_at}
 use Rattle.frontier_sweep.specs.Views.{IsView}
-use Rattle.frontier_sweep.specs.declared.step.NotGlued.{NotGlued}
-use Rattle.frontier_sweep.specs.declared.step.NotGlued.TheVariants.{Wide, Full, Memory}
+use Rattle.frontier_sweep.specs.declared.fault.NotGlued.{NotGlued}
+use Rattle.frontier_sweep.specs.declared.fault.NotGlued.TheVariants.{Wide, Full, Memory}
 
 -- So many nodes were taken, each by an answer on the view of those before it.
 pub record IsContractedTo (answers : View → ℕ → Type 0) (m delta : ℕ) (network : Network) (done : ℕ) (frontier : Frontier) (count : ℕ) : Type 0 where

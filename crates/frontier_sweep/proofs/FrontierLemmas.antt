@@ -26,12 +26,13 @@ use Rattle.frontier_laws.proofs.TableEnds.{entry_spelled}
 use Rattle.frontier_laws.proofs.TableLimits.{new_code_fits_at}
 use Rattle.frontier_laws.proofs.TableSteps.{table_after}
 use Rattle.frontier_laws.proofs.Tables.{add_all-append, add_all-below}
-use Rattle.frontier_laws.proofs.TurnSteps.{range_more, turns_after, within_after, wide_after, full_after}
+use Rattle.frontier_laws.proofs.TurnSteps.{turns_after, within_after, wide_after, full_after}
+use Rattle.list_lemmas.proofs.Ranges.{range_more, range_push}
 use Rattle.frontier_sweep.specs.Frontiers.{Frontier, IsFrontier, IsLimitAfter}
 use Rattle.frontier_sweep.specs.NotGluedNodes.{Explains}
 use Rattle.frontier_sweep.specs.Steps.{IsReady, IsSeamOf, OverflowsIn, OverflowsAt}
-use Rattle.frontier_sweep.specs.declared.step.NotGlued.{NotGlued}
-use Rattle.frontier_sweep.specs.declared.step.NotGlued.TheVariants.{Wide, Full, Memory}
+use Rattle.frontier_sweep.specs.declared.fault.NotGlued.{NotGlued}
+use Rattle.frontier_sweep.specs.declared.fault.NotGlued.TheVariants.{Wide, Full, Memory}
 use Rattle.list_lemmas.specs.Times.{times_in}
 
 -- The node at a place that is left is taken.
@@ -63,12 +64,6 @@ taking m delta network order frontier count h small weights some place left node
   left = left;
   node_is = node_read network nodes place node same (place_in_network m delta network order frontier count h place left) read;
 }
-
-pub range_push : (n : ℕ) → range_with_len 0 (n + 1) ≡ range_with_len 0 n ++ n ∷ []
-range_push n =
-    (let e : n + 1 ≡ suc n = omega arith in ap (range_with_len 0) e)
-    ∙ range_more 0 n
-    ∙ ap (λ k. range_with_len 0 n ++ k ∷ []) (let e : 0 + n ≡ n = omega arith in e)
 
 -- A product of two numbers within their bounds.
 product_bound : (a b c d : ℕ) → a ≤ c → b ≤ d → a * b ≤ c * d

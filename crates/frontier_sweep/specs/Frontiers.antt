@@ -10,8 +10,8 @@ use Rattle.state_sums.specs.Networks.{Network}
 use Rattle.frontier_laws.specs.Orders.{taken, left_after, open_names, IsPartOrder}
 use Rattle.frontier_laws.specs.Tables.{IsTableOf}
 use Rattle.frontier_laws.specs.Turns.{turns, IsWithin, IsWideAt, IsFullAt}
-use Rattle.frontier_sweep.specs.declared.step.NotGlued.{NotGlued}
-use Rattle.frontier_sweep.specs.declared.step.NotGlued.TheVariants.{Wide, Full, Memory}
+use Rattle.frontier_sweep.specs.declared.fault.NotGlued.{NotGlued}
+use Rattle.frontier_sweep.specs.declared.fault.NotGlued.TheVariants.{Wide, Full, Memory}
 
 -- The places left, the open names, and the table of their pairings.
 pub record Frontier : Type 0 where

@@ -5,8 +5,8 @@ use Rattle.std.specs.Prelude.{◌≡◌, ℕ, ◌<◌, List, ◌++◌, ⊤}
 use Rattle.state_sums.specs.Networks.{Node}
 use Rattle.arc_pairing.specs.Gluing.{single_count}
 use Rattle.frontier_sweep.specs.Steps.{OverflowsAt}
-use Rattle.frontier_sweep.specs.declared.step.NotGlued.{NotGlued}
-use Rattle.frontier_sweep.specs.declared.step.NotGlued.TheVariants.{Wide, Full, Memory}
+use Rattle.frontier_sweep.specs.declared.fault.NotGlued.{NotGlued}
+use Rattle.frontier_sweep.specs.declared.fault.NotGlued.TheVariants.{Wide, Full, Memory}
 
 -- More than 24 names would be open, or an entry overflows the next table; want of memory explains itself.
 abbrev pub Explains : ℕ → ℕ → List ℕ → Node → List (ℕ × ℕ) → NotGlued → Type 0

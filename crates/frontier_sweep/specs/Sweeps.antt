@@ -11,8 +11,8 @@ use Rattle.std.specs.Prelude.{◌≡◌, ℕ, ◌+◌, ◌≤◌, List, length, 
 use Rattle.state_sums.specs.Networks.{Network}
 use Rattle.frontier_laws.specs.Orders.{View, taken, IsChosen, IsPartOrder}
 use Rattle.frontier_laws.specs.Turns.{turns, IsWithin, IsWideAt, IsFullAt}
-use Rattle.frontier_sweep.specs.declared.step.NotGlued.{NotGlued}
-use Rattle.frontier_sweep.specs.declared.step.NotGlued.TheVariants as reasons
+use Rattle.frontier_sweep.specs.declared.fault.NotGlued.{NotGlued}
+use Rattle.frontier_sweep.specs.declared.fault.NotGlued.TheVariants as reasons
 use Rattle.frontier_sweep.specs.declared.fault.SweepFault.{SweepFault}
 use Rattle.frontier_sweep.specs.declared.fault.SweepFault.TheVariants.{Wide, Table, Memory}
 

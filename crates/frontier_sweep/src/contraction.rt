@@ -7,10 +7,9 @@ ghost use Rattle.root_quantum.specs.QuantumNumbers.{loop_value};
 ghost use Rattle.frontier_sweep.specs.Sweeps.{IsSwept, IsStopped, stopped_at};
 
 use crate::chooser::{Choose, Chooser};
-use crate::fault::SweepFault;
+use crate::fault::{NotGlued, SweepFault};
 use crate::frontier::Frontier;
 use crate::powers::LoopPowers;
-use crate::step::NotGlued;
 use arc_pairing::{Network, Turns};
 use root_quantum::Params;
 use std::alloc::Global;

@@ -9,8 +9,9 @@ ghost use Rattle.state_sums.specs.Networks.{WeightsBelow};
 ghost use Rattle.frontier_sweep.specs.Views.{IsView};
 ghost use Rattle.frontier_sweep.specs.Frontiers.{IsFrontier, IsLimitAfter};
 
+use crate::fault::NotGlued;
 use crate::powers::LoopPowers;
-use crate::step::{NotGlued, glue_node};
+use crate::step::glue_node;
 use crate::table::Table;
 use crate::view::View;
 use arc_pairing::{Network, Turns};
@@ -118,17 +119,8 @@ impl Frontier {
             → IfErr result (IsLimitAfter network.now (order ++ place ∷ [])) }
     {
         let node = &network.nodes()[place as usize];
-        let seam = match glue_node(
-            powers,
-            self.names.as_slice(),
-            node,
-            &self.table,
-            &mut self.next,
-            turns,
-        ) {
-            Ok(seam) => seam,
-            Err(reason) => return Err(reason),
-        };
+        let names = self.names.as_slice();
+        let seam = glue_node(powers, names, node, &self.table, &mut self.next, turns)?;
         mem::swap(&mut self.table, &mut self.next);
         self.names = copied(seam.names());
         let index = index_of(&self.left, place);

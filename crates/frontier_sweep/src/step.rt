@@ -1,6 +1,6 @@
 //! One step of the sweep: a node is glued to each pairing of a table.
 
-ghost use Rattle.std.specs.Prelude.{◌≡◌, ◌<◌, ◌≤◌, ◌+◌, ◌*◌, ◌^◌, ◌==◌, ℕ, [], length, map, take, get_or, false, ◌++◌, OnOk, IfOk, IfErr};
+ghost use Rattle.std.specs.Prelude.{◌≡◌, ◌≢◌, ◌<◌, ◌≤◌, ◌+◌, ◌*◌, ◌^◌, ◌==◌, ℕ, [], length, map, take, get_or, false, ◌++◌, OnOk, IfOk, IfErr};
 ghost use Rattle.std.specs.List.Sorted.{IsStrictlyIncreasing};
 ghost use Rattle.list_lemmas.specs.Times.{times_in};
 ghost use Rattle.arc_pairing.specs.Nodes.{IsShortNode};
@@ -11,8 +11,9 @@ ghost use Rattle.std.specs.Set.{is_member};
 ghost use Rattle.frontier_laws.specs.Tables.{add_all, glued_item, contributions};
 ghost use Rattle.frontier_sweep.specs.Steps.{FitsSeam, Overflows, OverflowsIn, IsSeamOf, IsReady, Spells};
 
+use crate::fault::NotGlued;
 use crate::powers::LoopPowers;
-use crate::table::{MOST_PAIRINGS, NotAdded, Table};
+use crate::table::{MOST_PAIRINGS, Table};
 use arc_pairing::{Node, Pairing, Seam, Term, Turns, glue};
 
 /// What a node is glued with: the powers of delta, the seam, and the node's terms.
@@ -32,7 +33,7 @@ fn glue_terms(
     coefficient: u64,
     next: &mut Table,
     turns: &mut Turns,
-) -> Result<(), NotAdded>
+) -> Result<(), NotGlued>
     requires fits { length pairing.now ≡ length step.seam.now.inner }
     requires terms { All (FitsSeam step.powers.now.modulus step.seam.now) step.terms.now }
     requires coefficient { coefficient < step.powers.now.modulus }
@@ -42,7 +43,8 @@ fn glue_terms(
     ensures added { OnOk result (next.new ≡ add_all step.entry.powers.now.modulus next.old (map (glued_item step.entry.powers.now.delta step.entry.seam.now pairing.now coefficient) step.entry.terms.now)) }
     ensures few { OnOk result (length next.new ≤ 262144) }
     ensures turns { OnOk result (turns.new ≡ turns.old + length step.entry.terms.now) }
-    ensures full { result ≡ Err NotAdded.Full →
+    ensures narrow { (ends : ℕ) → result ≢ Err (NotGlued.Wide ends) }
+    ensures full { result ≡ Err NotGlued.Full →
         Overflows step.entry.powers.now.modulus next.old (map (glued_item step.entry.powers.now.delta step.entry.seam.now pairing.now coefficient) step.entry.terms.now) }
 {
     for term in step.terms {
@@ -61,7 +63,7 @@ pub(crate) fn glue_table(
     table: &Table,
     next: &mut Table,
     turns: &mut Turns,
-) -> Result<(), NotAdded>
+) -> Result<(), NotGlued>
     requires codes { (i : ℕ) → i < length table.now → Spells (length step.seam.now.inner) (get_or table.now i (0, 0)).0 }
     requires coefficients { (i : ℕ) → i < length table.now → (get_or table.now i (0, 0)).1 < step.powers.now.modulus }
     requires terms { All (FitsSeam step.powers.now.modulus step.seam.now) step.terms.now }
@@ -71,27 +73,16 @@ pub(crate) fn glue_table(
     ensures added { OnOk result (next.new ≡ add_all step.entry.powers.now.modulus [] (contributions step.entry.powers.now.delta step.entry.seam.now step.entry.terms.now table.now)) }
     ensures few { OnOk result (length next.new ≤ 262144) }
     ensures turns { OnOk result (turns.new ≡ turns.old + length table.now * length step.entry.terms.now) }
-    ensures full { result ≡ Err NotAdded.Full → OverflowsIn step.entry.powers.now.modulus step.entry.powers.now.delta step.entry.seam.now step.entry.terms.now table.now }
+    ensures narrow { (ends : ℕ) → result ≢ Err (NotGlued.Wide ends) }
+    ensures full { result ≡ Err NotGlued.Full → OverflowsIn step.entry.powers.now.modulus step.entry.powers.now.delta step.entry.seam.now step.entry.terms.now table.now }
 {
     for at in 0..table.len() {
         // Each code of a table spells a pairing.
         let (code, coefficient) = table.entry(at);
-        if let Some(pairing) = Pairing::from_code(code) {
-            glue_terms(step, &pairing, coefficient, next, turns)?;
-        }
+        let pairing = Pairing::from_code(code).unwrap();
+        glue_terms(step, &pairing, coefficient, next, turns)?;
     }
     Ok(())
-}
-
-/// Why a node was not glued.
-#[derive(Drop)]
-pub(crate) enum NotGlued {
-    /// So many names would be open, more than 24.
-    Wide { ends: u32 },
-    /// There would be a 262,145th pairing.
-    Full,
-    /// Want of memory.
-    Memory,
 }
 
 /// Glues the node to each pairing of the table, whose points have these names, and makes of it the next
@@ -112,23 +103,14 @@ pub(crate) fn glue_node(
     ensures node { IsShortNode node.now }
     ensures refused { IfErr result (Explains powers.now.modulus powers.now.delta names.now node.now table.now) }
 {
-    let seam = match Seam::of(names, node.ends()) {
-        Ok(seam) => seam,
-        Err(wide) => return Err(NotGlued::Wide { ends: wide.ends }),
-    };
+    let seam = Seam::of(names, node.ends())?;
     let terms = node.terms();
     let step = Step {
         powers,
         seam: &seam,
         terms,
     };
-    match next.prepare((table.len() * terms.len()).min(MOST_PAIRINGS)) {
-        Ok(()) => {}
-        Err(_) => return Err(NotGlued::Memory),
-    }
-    match glue_table(step, table, next, turns) {
-        Ok(()) => Ok(seam),
-        Err(NotAdded::Full) => Err(NotGlued::Full),
-        Err(NotAdded::Memory) => Err(NotGlued::Memory),
-    }
+    next.prepare((table.len() * terms.len()).min(MOST_PAIRINGS))?;
+    glue_table(step, table, next, turns)?;
+    Ok(seam)
 }

@@ -1,12 +1,13 @@
 //! Tables from pairings to coefficients.
 
-ghost use Rattle.std.specs.Prelude.{◌≡◌, ◌<◌, ◌≤◌, ◌==◌, ℕ, [], length, false, get_or, ◌∷◌, OnOk, IfOk, IfSome};
+ghost use Rattle.std.specs.Prelude.{◌≡◌, ◌≢◌, ◌<◌, ◌≤◌, ◌==◌, ℕ, [], length, false, get_or, ◌∷◌, OnOk, IfOk, IfSome};
 ghost use Rattle.std.specs.List.{All};
 ghost use Rattle.std.specs.Map.{keys_of, lookup};
 ghost use Rattle.std.specs.Option.{unwrap_or};
 ghost use Rattle.std.specs.Set.{is_member};
 ghost use Rattle.frontier_laws.specs.Tables.{add_in};
 
+use crate::fault::NotGlued;
 use indexmap::IndexMap;
 use residue_ring::Ring;
 use std::alloc::{AllocError, Global};
@@ -14,15 +15,6 @@ use std::marker::Model;
 
 /// The most pairings of a table. It lies above 208,012, the number of noncrossing pairings of 24 points.
 pub(crate) const MOST_PAIRINGS: usize = 262_144;
-
-/// Why an entry was not added.
-#[derive(Drop)]
-pub(crate) enum NotAdded {
-    /// It would be the 262,145th.
-    Full,
-    /// Want of memory.
-    Memory,
-}
 
 /// The coefficients of at most 262,144 pairings, by their codes, in the order in which they came.
 ///
@@ -55,10 +47,8 @@ impl Table {
         ensures { IfOk result (λ table. table ≡ (0, 1) ∷ []) }
     {
         let mut table = Table::new(alloc);
-        match table.entries.insert(0, 1) {
-            Ok(_) => Ok(table),
-            Err(_) => Err(AllocError),
-        }
+        table.entries.insert(0, 1)?;
+        Ok(table)
     }
 
     /// How many pairings it has.
@@ -68,15 +58,14 @@ impl Table {
         self.entries.len()
     }
 
-    /// The entry at that place, and no coefficient past the end.
+    /// The entry at that place.
     #[inline]
     pub(crate) fn entry(&self, at: usize) -> (u128, u64)
+        requires { at < length self.now }
         ensures { result ≡ get_or self.now at (0, 0) }
     {
-        match self.entries.get_index(at) {
-            Some((code, coefficient)) => (*code, *coefficient),
-            None => (0, 0),
-        }
+        let (code, coefficient) = self.entries.get_index(at).unwrap();
+        (*code, *coefficient)
     }
 
     /// The coefficient at the code, and 0 where the code is not there.
@@ -99,24 +88,22 @@ impl Table {
 
     /// c more at the code, which is a residue, as all coefficients are. A new code goes last.
     #[inline]
-    pub(crate) fn add(&mut self, ring: &Ring, code: u128, more: u64) -> Result<(), NotAdded>
+    pub(crate) fn add(&mut self, ring: &Ring, code: u128, more: u64) -> Result<(), NotGlued>
         requires more { more < ring.now }
         requires below { All (λ entry. entry.1 < ring.now) self.old }
         requires few { length self.old ≤ 262144 }
         ensures added { OnOk result (self.new ≡ add_in ring.now code more self.old) }
         ensures few { OnOk result (length self.new ≤ 262144) }
-        ensures full { result ≡ Err NotAdded.Full → (is_member ◌==◌ (keys_of self.old) code ≡ false) × (262144 ≤ length self.old) }
+        ensures narrow { (ends : ℕ) → result ≢ Err (NotGlued.Wide ends) }
+        ensures full { result ≡ Err NotGlued.Full → (is_member ◌==◌ (keys_of self.old) code ≡ false) × (262144 ≤ length self.old) }
     {
         match self.entries.get_mut(&code) {
             Some(coefficient) => *coefficient = ring.add(*coefficient, more),
             None => {
                 if self.entries.len() >= MOST_PAIRINGS {
-                    return Err(NotAdded::Full);
+                    return Err(NotGlued::Full);
                 }
-                match self.entries.insert(code, more) {
-                    Ok(_) => {}
-                    Err(_) => return Err(NotAdded::Memory),
-                }
+                self.entries.insert(code, more)?;
             }
         }
         Ok(())

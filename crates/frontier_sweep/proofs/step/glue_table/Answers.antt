@@ -4,7 +4,6 @@ use Rattle.frontier_laws.specs.Tables.{decoded, add_all, glued_item}
 use Rattle.frontier_sweep.specs.Steps.{Overflows, Spells}
 use Rattle.frontier_sweep.proofs.StepLemmas.{IsGluedToAll, entry_more, entry_over, some_same}
 use Rattle.frontier_sweep.proofs.step.glue_table.Goals as goal
-use Rattle.frontier_sweep.proofs.step.glue_table.Goals.{in-Some+in_ok-glue_terms, in_default}
 
 pub returns-in_err-glue_terms-clause-full : goal.returns-in_err-glue_terms-clause-full
 returns-in_err-glue_terms-clause-full c full =
@@ -15,7 +14,7 @@ returns-in_err-glue_terms-clause-full c full =
     let within : c.loop-at.at < length table = subst (λ n. c.loop-at.at < n) c.len-at-end.ensures c.loop-at-test.true in
     let p = err_from_is_err_and c.from_residual.result c.from_residual.ensures.1 in
     let spells = subst (λ (e : ℕ × ℕ). Spells (length step.seam.now.inner) e.0) (sym c.entry-code.ensures) (c.requires.codes c.loop-at.at within) in
-    let is = some_same c.in-Some.pairing (decoded entry.0) (sym c.in-Some.is ∙ c.from_code.ensures.found (decoded entry.0) spells.short (sym spells.again)) in
+    let is = some_same c.unwrap-pairing.result (decoded entry.0) (sym c.unwrap-pairing.ensures ∙ c.from_code.ensures.found (decoded entry.0) spells.short (sym spells.again)) in
     entry_over powers step.seam.now step.terms.now table c.loop-at.next c.args.turns.now c.loop-at.at c.loop-at.turns c.loop-at.invariant within entry c.entry-code.ensures
     (subst (λ (partner : List ℕ). Overflows powers.modulus c.loop-at.next (map (glued_item powers.delta step.seam.now partner entry.1) step.terms.now)) is
     ((c.in_err-glue_terms.ensures {u = tt}).full (ap Err (sym p.2) ∙ sym p.1 ∙ full)))
@@ -29,14 +28,9 @@ loop-at-preserved c =
     let entry : ℕ × ℕ = c.entry-code.result in
     let within : c.loop-at.at < length table = subst (λ n. c.loop-at.at < n) c.len-at-end.ensures c.loop-at-test.true in
     let spells = subst (λ (e : ℕ × ℕ). Spells (length step.seam.now.inner) e.0) (sym c.entry-code.ensures) (c.requires.codes c.loop-at.at within) in
-    let found = c.from_code.ensures.found (decoded entry.0) spells.short (sym spells.again) in
-    elim c.match-from_code.branch [
-      | in-Some+in_ok-glue_terms w ↦
-          let is = some_same w.in-Some.pairing (decoded entry.0) (sym w.in-Some.is ∙ found) in
-          let more = entry_more powers step.seam.now terms table c.loop-at.next c.args.turns.now c.loop-at.at c.loop-at.turns c.loop-at.invariant within entry c.entry-code.ensures c.requires.some w.glue_terms.new.next
-          ((w.in_ok-glue_terms.ensures {u = tt}).added ∙ ap (λ (partner : List ℕ). add_all powers.modulus c.loop-at.next (map (glued_item powers.delta step.seam.now partner entry.1) terms)) is)
-          (w.in_ok-glue_terms.ensures {u = tt}).few in
-          subst (λ next. IsGluedToAll powers step.seam.now terms table c.args.turns.now (c.loop-at.at + 1) next c.match-from_code.turns) (sym w.next-is)
-          (subst (λ turns. IsGluedToAll powers step.seam.now terms table c.args.turns.now (c.loop-at.at + 1) w.glue_terms.new.next turns) (sym (w.turns-is ∙ (w.in_ok-glue_terms.ensures {u = tt}).turns)) more)
-      | in_default w ↦ absurd (w.in_default.not-Some (decoded entry.0) found)
-    ]
+    let is = some_same c.unwrap-pairing.result (decoded entry.0) (sym c.unwrap-pairing.ensures ∙ c.from_code.ensures.found (decoded entry.0) spells.short (sym spells.again)) in
+    let glued = c.in_ok-glue_terms.ensures {u = tt} in
+    let more = entry_more powers step.seam.now terms table c.loop-at.next c.args.turns.now c.loop-at.at c.loop-at.turns c.loop-at.invariant within entry c.entry-code.ensures c.requires.some c.glue_terms.new.next
+    (glued.added ∙ ap (λ (partner : List ℕ). add_all powers.modulus c.loop-at.next (map (glued_item powers.delta step.seam.now partner entry.1) terms)) is)
+    glued.few in
+    subst (λ turns. IsGluedToAll powers step.seam.now terms table c.args.turns.now (c.loop-at.at + 1) c.glue_terms.new.next turns) (sym glued.turns) more

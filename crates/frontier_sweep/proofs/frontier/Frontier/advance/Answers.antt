@@ -1,8 +1,10 @@
 use Rattle.std.proofs.Common.{ℕ, ◌<◌, ◌≤◌, ◌+◌, ◌*◌, List, [], ◌∷◌, ◌++◌, length, slice_index, sym, ap, subst, ◌∙◌}
 use Rattle.std.specs.List.{remove}
+use Rattle.std.proofs.lemmas.Result.{err_from_is_err_and}
 use Rattle.state_sums.specs.Networks.{Node}
 use Rattle.frontier_laws.specs.Tables.{add_all, contributions}
-use Rattle.frontier_sweep.specs.Frontiers.{Frontier, IsFrontier}
+use Rattle.std.specs.Result.{IfErr}
+use Rattle.frontier_sweep.specs.Frontiers.{Frontier, IsFrontier, IsLimitAfter}
 use Rattle.frontier_sweep.specs.NotGluedNodes.{Explains}
 use Rattle.frontier_sweep.specs.Steps.{IsReady, IsSeamOf}
 use Rattle.frontier_sweep.proofs.FrontierLemmas.{place_in_network, taking, ready, limit, next_frontier}
@@ -21,23 +23,26 @@ glue_node-requires c =
     let f = c.requires.frontier in
     let node = c.index-nodes-place.result in
     let taken = taking m delta network f.0 c.args.self.now c.args.turns.now f.1 c.nodes.ensures.network c.requires.weights c.requires.some c.args.place c.requires.left c.nodes.result.now node c.nodes.ensures.value c.index-nodes-place.is in
-    let names = c.as_slice.ensures.value ∙ ap (λ (frontier : Frontier). frontier.names) c.self.view_is in
+    let names = c.as_slice-names.ensures.value ∙ ap (λ (frontier : Frontier). frontier.names) c.self.view_is in
     let table = ap (λ (frontier : Frontier). frontier.table) c.self.view_is in
     subst (λ (names : List ℕ). IsReady m names node c.self.inside.table c.args.turns.now) (sym names)
     (subst (λ (table : List (ℕ × ℕ)). IsReady m c.args.self.now.names node table c.args.turns.now) (sym table) (ready m delta network f.0 c.args.self.now c.args.turns.now f.1 c.args.place node taken))
 
-pub returns-in-Err-clause-refused : goal.returns-in-Err-clause-refused
-returns-in-Err-clause-refused c order h =
+pub returns-in_err-seam-clause-refused : goal.returns-in_err-seam-clause-refused
+returns-in_err-seam-clause-refused c order h =
     let m = c.args.powers.now.modulus in
     let delta = c.args.powers.now.delta in
     let network = c.args.network.now in
     let node = c.index-nodes-place.result in
     let taken = taking m delta network order c.args.self.now c.args.turns.now h c.nodes.ensures.network c.requires.weights c.requires.some c.args.place c.requires.left c.nodes.result.now node c.nodes.ensures.value c.index-nodes-place.is in
-    let names = c.as_slice.ensures.value ∙ ap (λ (frontier : Frontier). frontier.names) c.self.view_is in
+    let names = c.as_slice-names.ensures.value ∙ ap (λ (frontier : Frontier). frontier.names) c.self.view_is in
     let table = ap (λ (frontier : Frontier). frontier.table) c.self.view_is in
-    limit m delta network order c.args.self.now c.args.turns.now h c.args.place node taken c.in-Err.reason
-    (subst (λ (names : List ℕ). Explains m delta names node c.args.self.now.table c.in-Err.reason) names
-    (subst (λ (table : List (ℕ × ℕ)). Explains m delta c.as_slice.result.now node table c.in-Err.reason) table (c.in-Err.ensures {u = tt}).refused))
+    let p = err_from_is_err_and c.from_residual.result c.from_residual.ensures.1 in
+    let explained = subst (λ (names : List ℕ). Explains m delta names node c.args.self.now.table c.in_err-seam.field-0.0) names
+    (subst (λ (table : List (ℕ × ℕ)). Explains m delta c.as_slice-names.result.now node table c.in_err-seam.field-0.0) table (c.in_err-seam.ensures {u = tt}).refused) in
+    subst (λ result. IfErr result (IsLimitAfter network (order ++ c.args.place ∷ []))) (sym p.1)
+    (subst (IsLimitAfter network (order ++ c.args.place ∷ [])) (sym p.2)
+    (limit m delta network order c.args.self.now c.args.turns.now h c.args.place node taken c.in_err-seam.field-0.0 explained))
 
 pub returns-clause-after : goal.returns-clause-after
 returns-clause-after c order h =
@@ -46,20 +51,20 @@ returns-clause-after c order h =
     let network = c.args.network.now in
     let node = c.index-nodes-place.result in
     let taken = taking m delta network order c.args.self.now c.args.turns.now h c.nodes.ensures.network c.requires.weights c.requires.some c.args.place c.requires.left c.nodes.result.now node c.nodes.ensures.value c.index-nodes-place.is in
-    let names = c.as_slice.ensures.value ∙ ap (λ (frontier : Frontier). frontier.names) c.self.view_is in
+    let names = c.as_slice-names.ensures.value ∙ ap (λ (frontier : Frontier). frontier.names) c.self.view_is in
     let table = ap (λ (frontier : Frontier). frontier.table) c.self.view_is in
     let left = ap (λ (frontier : Frontier). frontier.left) c.self.view_is in
-    let glued = c.in-Ok.ensures {u = tt} in
-    let seam = subst (λ (names : List ℕ). IsSeamOf names node.ends c.in-Ok.seam) names glued.seam in
+    let glued = c.in_ok-seam.ensures {u = tt} in
+    let seam = subst (λ (names : List ℕ). IsSeamOf names node.ends c.in_ok-seam.seam) names glued.seam in
     let at = c.index_of-index.result in
     let inside_left = c.deref.ensures.value in
     let in_range = subst (λ (left : List ℕ). at < length left) (inside_left ∙ left) c.index_of-index.ensures.within in
     let here = ap (λ (left : List ℕ). slice_index left at) (sym (inside_left ∙ left)) ∙ c.index_of-index.ensures.place in
     let next = c.swap.new.x in
-    let next_is = c.swap.ensures.x_after ∙ glued.added ∙ ap (λ (table : List (ℕ × ℕ)). add_all m [] (contributions delta c.in-Ok.seam node.terms table)) table in
+    let next_is = c.swap.ensures.x_after ∙ glued.added ∙ ap (λ (table : List (ℕ × ℕ)). add_all m [] (contributions delta c.in_ok-seam.seam node.terms table)) table in
     let few = subst (λ (table : List (ℕ × ℕ)). length table ≤ 262144) (sym c.swap.ensures.x_after) glued.few in
     let turns = glued.turns ∙ ap (λ (table : List (ℕ × ℕ)). c.args.turns.now + length table * length node.terms) table in
-    let after = next_frontier m delta network order c.args.self.now c.args.turns.now h c.args.place node taken c.in-Ok.seam seam glued.node at in_range here next next_is few c.glue_node.new.turns turns in
+    let after = next_frontier m delta network order c.args.self.now c.args.turns.now h c.args.place node taken c.in_ok-seam.seam seam glued.node at in_range here next next_is few c.glue_node.new.turns turns in
     let left_after = c.remove.ensures.items ∙ ap (λ (left : List ℕ). remove left at) left in
     let names_after = c.copied-self-inside.ensures ∙ c.names.ensures.value in
     subst (λ (left : List ℕ). IsFrontier m delta network (order ++ c.args.place ∷ []) record { left = left; names = c.copied-self-inside.result.items; table = next } c.glue_node.new.turns) (sym left_after)

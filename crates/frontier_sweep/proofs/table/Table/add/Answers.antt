@@ -35,10 +35,10 @@ returns-then-len-ge-MOST_PAIRINGS-clause-full c _ =
       (let l = c.len.ensures.len in let t = c.if-len-ge-MOST_PAIRINGS.true in omega (arith, l, t, same)),
     )
 
-pub returns-in-Ok-clause-added : goal.returns-in-Ok-clause-added
-returns-in-Ok-clause-added c =
+pub returns-in_ok-insert-in-None-clause-added : goal.returns-in_ok-insert-in-None-clause-added
+returns-in_ok-insert-in-None-clause-added c =
     let none = sym (ap option_copied_mut c.in-None.is) ∙ c.get_mut.ensures.value in
-    c.in-Ok.ensures.entries
+    (c.in_ok-insert-in-None.ensures {u = tt}).entries
     ∙ ap (λ map. insert_entry ◌==◌ map.entries c.args.code c.args.more) c.get_mut.follows.holds-at-none
     ∙ inserted c.args.ring.now c.args.code c.args.more c.self.inside.entries.entries c.requires.more none
     ∙ ap (add_in c.args.ring.now c.args.code c.args.more) c.self.view_is
