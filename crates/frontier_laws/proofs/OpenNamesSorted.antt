@@ -18,7 +18,6 @@ use Rattle.frontier_laws.specs.Orders.{placed, increasing}
 use Rattle.list_lemmas.proofs.Increasing.{pairs_head, pairs_tail, one_increasing}
 
 -- ---- how often a number stands in a list
-
 -- ---- the names, increasing
 times_placed : (name : ℕ) (names : List ℕ) (x : ℕ) → times_in (placed name names) x ≡ cond (x == name) 1 0 + times_in names x
 times_placed name [] x = times_in-cons name [] x

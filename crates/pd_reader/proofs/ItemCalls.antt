@@ -43,6 +43,7 @@ listed_one (n ∷ []) h = refl
 listed_one (n ∷ m ∷ ns) h = absurd (omega (arith, h.count_is))
 
 -- ---- of a diagram
+
 abbrev pub head : Item → List ℕ
 head (items.X slots) = codes "X"
 head (items.Loop label) = codes "Loop"
@@ -100,6 +101,7 @@ all_heads (items.Loop label) = inl refl
 all_heads (items.X slots) = inr (inl refl)
 
 -- ---- of a net
+
 abbrev pub net_head : NetItem → List ℕ
 net_head (net_items.X slots) = codes "X"
 net_head (net_items.Y edges) = codes "Y"

@@ -37,6 +37,7 @@ unfolding is_space
 net_are_tokens vs h = listed-tokens IsTextNetItem net_item_tokens net_item_are_tokens (codes "Net") refl vs h
 
 -- ---- labels
+
 label_of : (n : ℕ) → IsNumber n → IsLabel n
 label_of n h = record { low = h.low; high = omega (arith, h.high) }
 

@@ -90,6 +90,7 @@ torus_counts n l least low high =
     omega (arith, more, slots, a, d, (front_counts l k).low low (omega arith))
 
 -- ---- labels in range, sizes and the number of items
+
 abbrev UpTo : ℕ → ℕ → Type 0
 UpTo most l = (1 ≤ l) × (l ≤ most)
 

@@ -38,6 +38,7 @@ Spaces-more bytes at next h lt s =
     }
 
 -- ---- words
+
 pub common-same : (c : ℕ) (w : List ℕ) (b : ℕ) (bs : List ℕ) → b ≡ c → common (c ∷ w) (b ∷ bs) ≡ suc (common w bs)
 unfolding common
 common-same c w b bs e = rw (eq-eqb b c e) refl
@@ -74,6 +75,7 @@ agreed-other bytes word at count lt lt2 e =
     rw (drop_more word count 0 lt, drop_more bytes (at + count) 0 lt2, common-other (get_or word count 0) (drop (count + 1) word) (get_or bytes (at + count) 0) (drop (at + count + 1) bytes) e) (omega arith)
 
 -- ---- numbers
+
 pub record Digits (bytes : List ℕ) (at n next : ℕ) : Type 0 where
   pub fits : IsNumber n
   pub within : next ≤ length bytes
@@ -111,6 +113,7 @@ pub digit_bounds : (b : ℕ) → is_digit b ≡ true → (48 ≤ b) × (b ≤ 57
 digit_bounds b e = let p = and_parts (leb 48 b) (leb b 57) e in (leb-true 48 b p.0, leb-true b 57 p.1)
 
 -- ---- words that stand, and words that don't
+
 common-whole : (w bs : List ℕ) → common w bs ≡ length w → bs ≡ w ++ drop (length w) bs
 unfolding common
 common-whole [] bs e = refl

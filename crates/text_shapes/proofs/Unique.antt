@@ -30,6 +30,7 @@ split_once p (x ∷ xs) ys (x' ∷ xs') ys' h h' s s' e =
     (rw (first, one.0) refl, one.1)
 
 -- ---- tokens
+
 -- a token begins with no white space
 begins : (t rest : List ℕ) → 0 < length t → AllByRecursion (λ b. is_space b ≡ false) t → StopsAtFirst is_space (t ++ rest)
 begins [] rest lt h = absurd (omega arith)
@@ -92,6 +93,7 @@ unfolding is_word_byte
 open_is_mark = refl
 
 -- ---- calls and lists
+
 -- whatever comes behind, the bytes tell the value and what is left of them
 abbrev pub Tells : {V : Type 0} → (V → Type 0) → (V → List (List ℕ)) → Type 0
 Tells {V} fits tokens = (v w : V) (more other : List (List ℕ)) (bs : List ℕ) → fits v → fits w → IsSpelled (tokens v ++ more) bs → IsSpelled (tokens w ++ other) bs → (v ≡ w) × Left more other

@@ -55,6 +55,7 @@ abbrev pub separator_of : ℕ → ℕ
 separator_of i = cond (i == 0) 91 44
 
 -- ---- a token of a family
+
 module _ {A : Type 0} (fits : A → Type 0) (token : A → List ℕ) (bytes : List ℕ) (at : ℕ) where
   -- the token of a stands behind white space, up to next, and each other breaks off before, where a mark comes behind it
   pub record TokenFound (a : A) (next : ℕ) : Type 0 where
@@ -74,6 +75,7 @@ abbrev pub OtherHeadsStop : {A : Type 0} → (A → List ℕ) → List ℕ → �
 OtherHeadsStop {A} token bytes at head next = (other : List ℕ) (all : List A) (more : List (List ℕ)) → IsWord other → (other ≡ head → ⊥) → place bytes at (call token other all ++ more) ≤ next
 
 -- ---- a value of a shape
+
 module _ {V : Type 0} (fits : V → Type 0) (tokens : V → List (List ℕ)) (bytes : List ℕ) (at : ℕ) where
   -- the tokens of the value stand from at on up to next, and those of each other value break off before
   pub record Found (value : V) (next : ℕ) : Type 0 where
@@ -92,6 +94,7 @@ module _ {V : Type 0} (fits : V → Type 0) (tokens : V → List (List ℕ)) (by
     pub most : (value : V) (more : List (List ℕ)) → fits value → place bytes at (tokens value ++ more) ≤ p
 
 -- ---- all the bytes
+
 module _ {V : Type 0} (fits : V → Type 0) (tokens : V → List (List ℕ)) (bytes : List ℕ) where
   -- the bytes are a text of the value, and of no other
   pub record Accepts (value : V) : Type 0 where
@@ -108,6 +111,7 @@ module _ {V : Type 0} (fits : V → Type 0) (tokens : V → List (List ℕ)) (by
     pub most : (value : V) → fits value → place bytes 0 (tokens value) ≤ p
 
 -- ---- parts of a value
+
 -- each value of one family that may stand from a on is one of another that may from b on, or breaks off before b
 pub record LeadsTo {A W : Type 0} (fits_a : A → Type 0) (F : A → List (List ℕ)) (fits_w : W → Type 0) (G : W → List (List ℕ)) (e : W → A) (bytes : List ℕ) (a b : ℕ) : Type 0 where
   pub from : a ≤ b
