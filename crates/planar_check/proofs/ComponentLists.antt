@@ -1,9 +1,6 @@
 -- The lists of the different labels, of their least labels and of all components: increasing, with the labels
 -- as elements, and as the ranks tell them.
---
--- Others cite: distinct_sorted, distinct-member, least_labels_sorted, own_are, leasts_are, ranks_inside, strands_among,
--- names_sorted, firsts_sorted, rank_inside, least_found, component_told, found_are.
-use Rattle.std.proofs.Common.{◌≡◌, ℕ, ◌+◌, ◌<◌, ◌≤◌, ◌==◌, ◌&&◌, ◌||◌, Bool, true, false, cond, leb, ltb, List, [], ◌∷◌, length, map, count_by, slice_index, Option, Some, None, MatchOption, inl, inr, refl, sym, subst, ap, ap₂, ◌∙◌, arith, All}
+use Rattle.std.proofs.Common.{◌≡◌, ℕ, ◌+◌, ◌<◌, ◌^◌, ◌≤◌, ◌==◌, ◌&&◌, ◌||◌, Bool, true, false, cond, leb, ltb, List, [], ◌∷◌, length, map, count_by, slice_index, Option, Some, None, MatchOption, inl, inr, refl, sym, subst, ap, ap₂, ◌∙◌, arith, All}
 use Rattle.std.specs.List.{AllByRecursion, filter, range_with_len}
 use Rattle.std.specs.List.Sorted.{IsStrictlySortedBy}
 use Rattle.std.specs.Ordering.{nat_cmp}
@@ -12,7 +9,6 @@ use Rattle.std.proofs.lemmas.Bool.{cases_Bool, ltb-true}
 use Rattle.std.proofs.lemmas.Bool.Decides.{nat_tests}
 use Rattle.std.proofs.lemmas.List.{ext_get_or, get_or-map, length-map}
 use Rattle.std.proofs.lemmas.List.Elements.{All-same, All-map}
-use Rattle.planar_check.proofs.Counts.{range_all}
 use Rattle.std.proofs.lemmas.List.FromFn.{length-range_with_len, get_or-range_with_len, length-map-range_with_len}
 use Rattle.std.proofs.lemmas.List.Kept.{IsStrictlySortedBy-filter}
 use Rattle.std.proofs.lemmas.Map.Keys.{sorted_from_strictly_increasing}
@@ -25,11 +21,13 @@ use Rattle.graph_parts.proofs.Numbered.{is_member-numbered, AreAmong-numbered}
 use Rattle.pd_reader.specs.declared.item.Item.{Item}
 use Rattle.pd_reader.specs.Items.{item_labels, HasItsSlots}
 use Rattle.pd_reader.specs.Diagrams.{labels, IsDiagram}
-use Rattle.planar_check.specs.Components.{strand_edges, greatest, distinct, rank, least_of, is_least_of, least_labels, number_of, component_of, AreComponents}
-use Rattle.planar_check.proofs.Cycles.{entry_at}
+use Rattle.planar_check.specs.Components.{strand_edges, greatest, distinct, rank, component_least, is_least_of, least_labels, number_of, component_of}
+use Rattle.planar_check.proofs.FaceSteps.{entry_at}
 use Rattle.planar_check.proofs.FewComponents.{few_components}
 use Rattle.planar_check.proofs.Strands.{strands_inside, member_at_most, ends_below}
 use Rattle.planar_check.proofs.Ranks.{rank_at, at_rank, rank_absent, least_by_rank, least_inside, ranks_below}
+use Rattle.planar_check.specs.Tables.{AreComponents}
+use Rattle.list_lemmas.proofs.Ranges.{All-below}
 
 -- ---- increasing lists
 range_sorted : (n : ℕ) → IsStrictlySortedBy nat_cmp (range_with_len 0 n)
@@ -50,7 +48,7 @@ least_labels_sorted xs =
     IsStrictlySortedBy-filter nat_cmp (is_least_of xs) (range_with_len 0 n) (range_sorted n)
 
 -- ---- what is kept of a list
-member-filter : (p : ℕ → Bool) (ns : List ℕ) (x : ℕ) → is_member ◌==◌ (filter p ns) x ≡ (p x && is_member ◌==◌ ns x)
+pub member-filter : (p : ℕ → Bool) (ns : List ℕ) (x : ℕ) → is_member ◌==◌ (filter p ns) x ≡ (p x && is_member ◌==◌ ns x)
 member-filter p [] x = grind (arith, nat_tests)
 member-filter p (n ∷ ns) x =
     let ih = member-filter p ns x in
@@ -79,9 +77,9 @@ distinct-member ls x =
     ]
 
 -- THE NAMES THAT ARE THEIR OWN LEAST ONES
-pub own_are : (xs : List Item) → filter (λ name. least_of xs name == name) (distinct (labels item_labels xs)) ≡ least_labels xs
+pub own_are : (xs : List Item) → filter (λ name. component_least xs name == name) (distinct (labels item_labels xs)) ≡ least_labels xs
 unfolding distinct least_labels
-own_are xs = filter-filter (λ name. least_of xs name == name) (is_member ◌==◌ (labels item_labels xs)) (range_with_len 0 (greatest (labels item_labels xs) + 1))
+own_are xs = filter-filter (λ name. component_least xs name == name) (is_member ◌==◌ (labels item_labels xs)) (range_with_len 0 (greatest (labels item_labels xs) + 1))
 
 module _ (xs : List Item) (sizes : AllByRecursion HasItsSlots xs) where
   abbrev names : List ℕ
@@ -102,18 +100,18 @@ module _ (xs : List Item) (sizes : AllByRecursion HasItsSlots xs) where
   pub strands_among : All (λ edge. (edge.0 < length names) × (edge.1 < length names)) ranked
   strands_among = ends_below (λ k. ltb k (length names)) (length names) (λ k t. ltb-true k (length names) t) ranked (ranks_below names sorted es names_inside)
 
-  least_of_is : (x : ℕ) → is_member ◌==◌ names x ≡ true → least_of xs x ≡ least_label es x
-  unfolding least_of
+  least_of_is : (x : ℕ) → is_member ◌==◌ names x ≡ true → component_least xs x ≡ least_label es x
+  unfolding component_least
   least_of_is x m =
       let ls = labels item_labels xs in
       least_name-label ls es (strands_inside (is_member ◌==◌ ls) xs sizes (λ y k. k)) x (sym (distinct-member ls x) ∙ m)
 
   -- THE LEAST LABELS, BY RANKS
-  pub leasts_are : (ranks : List ℕ) → ranks ≡ map (least_name (range_with_len 0 (length names)) ranked) (range_with_len 0 (length names)) → map (slice_index names) ranks ≡ map (least_of xs) names
+  pub leasts_are : (ranks : List ℕ) → ranks ≡ map (least_name (range_with_len 0 (length names)) ranked) (range_with_len 0 (length names)) → map (slice_index names) ranks ≡ map (component_least xs) names
   leasts_are ranks are =
       let n = length names in
       let long : length ranks ≡ n = ap length are ∙ length-map-range_with_len (least_name (range_with_len 0 n) ranked) 0 n in
-      ext_get_or 0 (map (slice_index names) ranks) (map (least_of xs) names) (length-map ranks (slice_index names) ∙ (long ∙ sym (length-map names (least_of xs)))) (λ k l.
+      ext_get_or 0 (map (slice_index names) ranks) (map (component_least xs) names) (length-map ranks (slice_index names) ∙ (long ∙ sym (length-map names (component_least xs)))) (λ k l.
       let within : k < n = omega (arith, l, length-map ranks (slice_index names), long) in
       let x = slice_index names k in
       let here : is_member ◌==◌ names x ≡ true = is_member-get_or names k within in
@@ -124,7 +122,7 @@ module _ (xs : List Item) (sizes : AllByRecursion HasItsSlots xs) where
       get_or-map (slice_index names) ranks k 0 0 (omega (arith, within, long))
       ∙ (ap (slice_index names) entry
       ∙ ((at_rank names sorted (least_label es x) (least_inside names sorted es names_inside x here)).1
-      ∙ (sym (least_of_is x here) ∙ sym (get_or-map (least_of xs) names k 0 0 within)))))
+      ∙ (sym (least_of_is x here) ∙ sym (get_or-map (component_least xs) names k 0 0 within)))))
 
   -- each rank is that of a name
   pub ranks_inside : (ranks : List ℕ) → ranks ≡ map (least_name (range_with_len 0 (length names)) ranked) (range_with_len 0 (length names)) → All (λ k. k < length names) ranks
@@ -132,33 +130,33 @@ module _ (xs : List Item) (sizes : AllByRecursion HasItsSlots xs) where
       let n = length names in
       let P : ℕ → Type 0 = λ k. k < n in
       let f = least_name (range_with_len 0 n) ranked in
-      All-same P ranks (map f (range_with_len 0 n)) are (All-map P f (range_with_len 0 n) (range_all (λ k. P (f k)) n (λ k l.
+      All-same P ranks (map f (range_with_len 0 n)) are (All-map P f (range_with_len 0 n) (All-below (λ k. P (f k)) n (λ k l.
       let least = AreLeast-labels ranked in
       let below = least.below k in
       let is = least_name-label (range_with_len 0 n) ranked (AreAmong-numbered n ranked strands_among) k (is_member-numbered n k l) in
       omega (arith, below, is, l))))
 
 -- ---- the lists of a diagram's components
-module _ (xs : List Item) (names leasts firsts : List ℕ) (are : AreComponents xs names leasts firsts) where
+module _ (xs : List Item) (names leasts all : List ℕ) (are : AreComponents xs names leasts all) where
   pub names_sorted : IsStrictlySortedBy nat_cmp names
   names_sorted = subst (IsStrictlySortedBy nat_cmp) (sym are.names_are) (distinct_sorted (labels item_labels xs))
 
-  pub firsts_sorted : IsStrictlySortedBy nat_cmp firsts
-  firsts_sorted = subst (IsStrictlySortedBy nat_cmp) (sym are.firsts_are) (least_labels_sorted xs)
+  pub all_sorted : IsStrictlySortedBy nat_cmp all
+  all_sorted = subst (IsStrictlySortedBy nat_cmp) (sym are.all_are) (least_labels_sorted xs)
 
   names_member : (x : ℕ) → is_member ◌==◌ names x ≡ is_member ◌==◌ (labels item_labels xs) x
   names_member x = ap (λ (ns : List ℕ). is_member ◌==◌ ns x) are.names_are ∙ distinct-member (labels item_labels xs) x
 
   leasts_long : length leasts ≡ length names
-  leasts_long = ap length are.leasts_are ∙ length-map names (least_of xs)
+  leasts_long = ap length are.leasts_are ∙ length-map names (component_least xs)
 
   pub rank_inside : (x : ℕ) → is_member ◌==◌ (labels item_labels xs) x ≡ true → rank names x < length leasts
   rank_inside x m = let there = (at_rank names names_sorted x (names_member x ∙ m)).0 in omega (arith, there, leasts_long)
 
-  pub least_found : (x : ℕ) → is_member ◌==◌ (labels item_labels xs) x ≡ true → slice_index leasts (rank names x) ≡ least_of xs x
+  pub least_found : (x : ℕ) → is_member ◌==◌ (labels item_labels xs) x ≡ true → slice_index leasts (rank names x) ≡ component_least xs x
   least_found x m =
       let there = at_rank names names_sorted x (names_member x ∙ m) in
-      ap (λ (ns : List ℕ). slice_index ns (rank names x)) are.leasts_are ∙ (get_or-map (least_of xs) names (rank names x) 0 0 there.0 ∙ ap (least_of xs) there.1)
+      ap (λ (ns : List ℕ). slice_index ns (rank names x)) are.leasts_are ∙ (get_or-map (component_least xs) names (rank names x) 0 0 there.0 ∙ ap (component_least xs) there.1)
 
   rank_outside : (x : ℕ) → is_member ◌==◌ (labels item_labels xs) x ≡ false → rank names x ≡ length leasts
   rank_outside x m =
@@ -170,7 +168,7 @@ module _ (xs : List Item) (names leasts firsts : List ℕ) (are : AreComponents 
 
   -- THE COMPONENT OF A LABEL
   pub component_told : (label : ℕ) (found : Option ℕ) →
-      MatchOption found (length leasts ≤ rank names label) (λ number. (rank names label < length leasts) × (number ≡ count_by (λ first. leb first (slice_index leasts (rank names label))) firsts)) →
+      MatchOption found (length leasts ≤ rank names label) (λ number. (rank names label < length leasts) × (number ≡ count_by (λ least. leb least (slice_index leasts (rank names label))) all)) →
       found ≡ component_of xs label
   component_told label None h =
       elim (cases_Bool (is_member ◌==◌ (labels item_labels xs) label)) [
@@ -181,19 +179,29 @@ module _ (xs : List Item) (names leasts firsts : List ℕ) (are : AreComponents 
       elim (cases_Bool (is_member ◌==◌ (labels item_labels xs) label)) [
         | inl m ↦ (
             let same : number ≡ number_of xs label =
-            h.1 ∙ (ap (λ (k : ℕ). count_by (λ first. leb first k) firsts) (least_found label m) ∙ ap (count_by (λ first. leb first (least_of xs label))) are.firsts_are) in
+            h.1 ∙ (ap (λ (k : ℕ). count_by (λ least. leb least k) all) (least_found label m) ∙ ap (count_by (λ least. leb least (component_least xs label))) are.all_are) in
             ap Some same ∙ sym (ap (λ (b : Bool). cond b (Some (number_of xs label)) None) m))
         | inr m ↦ absurd (let out = rank_outside label m in let low = h.0 in omega (arith, out, low))
       ]
 
+-- the lists of the components, as they are read
+pub components_read : (xs : List Item) (names leasts all names_read leasts_read all_read : List ℕ) → names_read ≡ names → leasts_read ≡ leasts → all_read ≡ all → AreComponents xs names leasts all →
+    AreComponents xs names_read leasts_read all_read
+components_read xs own leasts all names_read leasts_read all_read n l f are = record {
+  names_are = n ∙ are.names_are;
+  leasts_are = l ∙ (are.leasts_are ∙ sym (ap (map (component_least xs)) n));
+  all_are = f ∙ are.all_are;
+  few = subst (λ fs. length fs < 2 ^ 32) (sym f) are.few;
+}
+
 -- what is found of a diagram
-pub found_are : (xs : List Item) → IsDiagram xs → (names leasts firsts : List ℕ) → names ≡ distinct (labels item_labels xs) → leasts ≡ map (least_of xs) names →
-    ((least : ℕ → ℕ) → leasts ≡ map least names → firsts ≡ filter (λ name. least name == name) names) → AreComponents xs names leasts firsts
-found_are xs diagram names leasts firsts n l f =
-    let is : firsts ≡ least_labels xs = f (least_of xs) l ∙ (ap (filter (λ name. least_of xs name == name)) n ∙ own_are xs) in
+pub found_are : (xs : List Item) → IsDiagram xs → (names leasts all : List ℕ) → names ≡ distinct (labels item_labels xs) → leasts ≡ map (component_least xs) names →
+    ((least : ℕ → ℕ) → leasts ≡ map least names → all ≡ filter (λ name. least name == name) names) → AreComponents xs names leasts all
+found_are xs diagram names leasts all n l f =
+    let is : all ≡ least_labels xs = f (component_least xs) l ∙ (ap (filter (λ name. component_least xs name == name)) n ∙ own_are xs) in
     record {
       names_are = n;
       leasts_are = l;
-      firsts_are = is;
+      all_are = is;
       few = omega (arith, ap length is, few_components xs diagram);
     }

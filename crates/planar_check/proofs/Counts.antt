@@ -1,23 +1,11 @@
--- Counting one number more, edges between numbers in range, and the places, turns and owners in range.
---
--- Others cite: counted_yes, counted_no, edges_among, turns_below, owners_below, others_below.
-use Rattle.std.proofs.Common.{inl, inr, ◌≡◌, ℕ, zero, suc, ◌+◌, ◌<◌, cond, true, false, Bool, List, [], ◌∷◌, ◌++◌, length, map, count_by, sym, subst, ap, ◌∙◌, arith, All, length-append}
+-- Counting one number more, edges between numbers in range, and the places, after and owners in range.
+use Rattle.std.proofs.Common.{inl, inr, ◌≡◌, ℕ, ◌+◌, ◌<◌, cond, true, false, Bool, List, [], ◌∷◌, ◌++◌, length, map, count_by, sym, subst, ap, ◌∙◌, arith, All, length-append}
 use Rattle.std.specs.List.{range_with_len}
 use Rattle.std.proofs.lemmas.Bool.{cases_Bool}
-use Rattle.std.proofs.lemmas.List.Elements.{All-nil, All-append, All-map, All-same, All-weaker, All-from_get_or, All-head, All-tail}
-use Rattle.std.proofs.lemmas.List.FromFn.{length-range_with_len, get_or-range_with_len}
+use Rattle.std.proofs.lemmas.List.Elements.{All-nil, All-append, All-map, All-same, All-weaker, All-head, All-tail}
 use Rattle.std.proofs.lemmas.List.Sums.{sum_by-append}
-use Rattle.planar_check.specs.Places.{labels_by_place, turned, turned_places, owners, first_passing, is_across, other_place, other_places}
-
-range_more : (a n j : ℕ) → a + n ≡ j → range_with_len a (suc n) ≡ range_with_len a n ++ j ∷ []
-range_more a zero j e = let same : a ≡ j = omega (arith, e) in ap (λ (x : ℕ). x ∷ []) same
-range_more a (suc n) j e = ap (λ (xs : List ℕ). a ∷ xs) (range_more (a + 1) n j (omega (arith, e)))
-
-pub range_next : (n : ℕ) → range_with_len 0 (n + 1) ≡ range_with_len 0 n ++ n ∷ []
-range_next n =
-    let one : n + 1 ≡ suc n = omega arith in
-    let same : 0 + n ≡ n = omega arith in
-    ap (range_with_len 0) one ∙ range_more 0 n n same
+use Rattle.planar_check.specs.Places.{labels_by_place, slot_after, slots_after, owners, first_passing, is_across, other_place, other_places}
+use Rattle.list_lemmas.proofs.Ranges.{range_push, All-below}
 
 -- what a test counts
 abbrev once : Bool → ℕ
@@ -25,10 +13,7 @@ once b = cond b 1 0
 
 count-more : (p : ℕ → Bool) (n : ℕ) → count_by p (range_with_len 0 (n + 1)) ≡ count_by p (range_with_len 0 n) + once (p n)
 count-more p n =
-    let one : n + 1 ≡ suc n = omega arith in
-    let same : 0 + n ≡ n = omega arith in
-    let more : range_with_len 0 (n + 1) ≡ range_with_len 0 n ++ n ∷ [] = ap (range_with_len 0) one ∙ range_more 0 n n same in
-    let split = ap (count_by p) more ∙ sum_by-append (λ x. once (p x)) (range_with_len 0 n) (n ∷ []) in
+    let split = ap (count_by p) (range_push n) ∙ sum_by-append (λ x. once (p x)) (range_with_len 0 n) (n ∷ []) in
     omega (arith, split)
 
 module _ (p : ℕ → Bool) (n before after : ℕ) (is : before ≡ count_by p (range_with_len 0 n)) where
@@ -38,31 +23,25 @@ module _ (p : ℕ → Bool) (n before after : ℕ) (is : before ≡ count_by p (
   pub counted_no : p n ≡ false → after ≡ before → after ≡ count_by p (range_with_len 0 (n + 1))
   counted_no t e = let none : once (p n) ≡ 0 = ap once t in omega (arith, count-more p n, none, e, is)
 
-pub range_all : (P : ℕ → Type 0) (n : ℕ) → ((k : ℕ) → k < n → P k) → All P (range_with_len 0 n)
-range_all P n h = All-from_get_or P (range_with_len 0 n) 0 (λ i l.
-    let below : i < n = omega (arith, l, length-range_with_len 0 n) in
-    let same : 0 + i ≡ i = omega arith in
-    subst P (sym (get_or-range_with_len 0 n i 0 below ∙ same)) (h i below))
-
 pub edges_among : (f : ℕ → ℕ × ℕ) (m n : ℕ) (edges : List (ℕ × ℕ)) → edges ≡ map f (range_with_len 0 m) → ((k : ℕ) → k < m → ((f k).0 < n) × ((f k).1 < n)) →
     All (λ edge. (edge.0 < n) × (edge.1 < n)) edges
 edges_among f m n edges is h =
     let P : ℕ × ℕ → Type 0 = λ edge. (edge.0 < n) × (edge.1 < n) in
-    All-same P edges (map f (range_with_len 0 m)) is (All-map P f (range_with_len 0 m) (range_all (λ k. P (f k)) m h))
+    All-same P edges (map f (range_with_len 0 m)) is (All-map P f (range_with_len 0 m) (All-below (λ k. P (f k)) m h))
 
-turned-below : (start n slot : ℕ) → slot < n → turned start n slot < start + n
-turned-below start n slot l = omega arith
+slot_after-below : (start n slot : ℕ) → slot < n → slot_after start n slot < start + n
+slot_after-below start n slot l = omega arith
 
-pub turns_below : (start : ℕ) (cs : List (List ℕ)) → All (λ p. p < start + length (labels_by_place cs)) (turned_places start cs)
-turns_below start [] = All-nil (λ p. p < start + 0)
-turns_below start (c ∷ cs) =
+pub after_below : (start : ℕ) (cs : List (List ℕ)) → All (λ p. p < start + length (labels_by_place cs)) (slots_after start cs)
+after_below start [] = All-nil (λ p. p < start + 0)
+after_below start (c ∷ cs) =
     let n = length c in
     let all = length-append c (labels_by_place cs) in
     let P : ℕ → Type 0 = λ p. p < start + length (c ++ labels_by_place cs) in
     let Q : ℕ → Type 0 = λ p. p < start + length c + length (labels_by_place cs) in
-    All-append P (map (turned start n) (range_with_len 0 n)) (turned_places (start + n) cs)
-    (All-map P (turned start n) (range_with_len 0 n) (range_all (λ slot. P (turned start n slot)) n (λ slot l. omega (arith, all, turned-below start n slot l))))
-    (All-weaker Q P (λ p h. omega (arith, all, h)) (turned_places (start + n) cs) (turns_below (start + n) cs))
+    All-append P (map (slot_after start n) (range_with_len 0 n)) (slots_after (start + n) cs)
+    (All-map P (slot_after start n) (range_with_len 0 n) (All-below (λ slot. P (slot_after start n slot)) n (λ slot l. omega (arith, all, slot_after-below start n slot l))))
+    (All-weaker Q P (λ p h. omega (arith, all, h)) (slots_after (start + n) cs) (after_below (start + n) cs))
 
 pub owners_below : (number : ℕ) (cs : List (List ℕ)) → All (λ o. o < number + length cs) (owners number cs)
 owners_below number [] = All-nil (λ o. o < number + 0)
@@ -87,5 +66,5 @@ unfolding other_place
 others_below labels =
     let n = length labels in
     let below : ℕ → Type 0 = λ p. p < n in
-    All-map below (other_place labels) (range_with_len 0 n) (range_all (λ p. below (other_place labels p)) n (λ p l.
-    first_below (is_across labels p) (range_with_len 0 n) p n (range_all below n (λ k h. h)) l))
+    All-map below (other_place labels) (range_with_len 0 n) (All-below (λ p. below (other_place labels p)) n (λ p l.
+    first_below (is_across labels p) (range_with_len 0 n) p n (All-below below n (λ k h. h)) l))

@@ -1,6 +1,4 @@
 -- The components of a crossing's strands are components of the diagram.
---
--- Others cite: crossings_within.
 use Rattle.std.proofs.Common.{◌≡◌, ℕ, ◌+◌, ◌*◌, ◌<◌, ◌≤◌, List, length, slice_index, map, arith, All}
 use Rattle.std.specs.List.{AllByRecursion, range_with_len}
 use Rattle.std.proofs.lemmas.List.Elements.{All-same, All-map}
@@ -8,13 +6,13 @@ use Rattle.graph_parts.proofs.Ends.{is_member-get_or}
 use Rattle.pd_reader.specs.declared.item.Item.{Item}
 use Rattle.pd_reader.specs.Items.{HasItsSlots}
 use Rattle.planar_check.specs.declared.sign.Signed.{Signed}
-use Rattle.planar_check.specs.Places.{labels_by_place}
+use Rattle.planar_check.specs.Places.{labels_by_place, crossings_of}
 use Rattle.planar_check.specs.Components.{least_labels}
-use Rattle.planar_check.specs.Signs.{crossings_of, component_at, signed_at, signed_crossings}
-use Rattle.planar_check.specs.Framings.{IsWithin}
-use Rattle.planar_check.proofs.Counts.{range_all}
+use Rattle.planar_check.specs.Signs.{component_at, signed_at, signed_crossings}
 use Rattle.planar_check.proofs.Crossings.{places_four, places_labels}
 use Rattle.planar_check.proofs.FewComponents.{number_first, number_last}
+use Rattle.planar_check.specs.Tables.{IsWithin}
+use Rattle.list_lemmas.proofs.Ranges.{All-below}
 
 module _ (xs : List Item) (sizes : AllByRecursion HasItsSlots xs) where
   first_at : (p : ℕ) → p < length (labels_by_place (crossings_of xs)) → 1 ≤ component_at xs p
@@ -31,7 +29,7 @@ module _ (xs : List Item) (sizes : AllByRecursion HasItsSlots xs) where
       let n = length (crossings_of xs) in
       let P : Signed → Type 0 = IsWithin (length (least_labels xs)) in
       All-same P list (map (signed_at xs) (range_with_len 0 n)) is
-      (All-map P (signed_at xs) (range_with_len 0 n) (range_all (λ k. P (signed_at xs k)) n (λ k l.
+      (All-map P (signed_at xs) (range_with_len 0 n) (All-below (λ k. P (signed_at xs k)) n (λ k l.
       let four = places_four xs sizes in
       record {
         under_first = first_at (4 * k) (omega (arith, l, four));

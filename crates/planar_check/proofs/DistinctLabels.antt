@@ -1,7 +1,5 @@
 -- A strictly increasing list with the labels of another as its elements is the list of the different labels.
---
--- Others cite: distinct_is, contains-member.
-use Rattle.std.proofs.Common.{◌≡◌, ℕ, zero, suc, ◌+◌, ◌<◌, ◌≤◌, ◌==◌, ◌||◌, Bool, true, false, cond, List, [], ◌∷◌, Less, subst, inl, inr, refl, sym, ap, ◌∙◌, arith, ⊎_elim, All}
+use Rattle.std.proofs.Common.{◌≡◌, ℕ, zero, suc, ◌+◌, ◌<◌, ◌≤◌, ◌==◌, ◌||◌, Bool, true, false, cond, List, [], ◌∷◌, Less, inl, inr, refl, sym, ap, ◌∙◌, arith, ⊎_elim}
 use Rattle.std.specs.List.{AllByRecursion, filter, range_with_len}
 use Rattle.std.specs.List.Sorted.{IsStrictlySortedBy}
 use Rattle.std.specs.Ordering.{nat_cmp}
@@ -9,19 +7,15 @@ use Rattle.std.specs.BTreeSet.{BTreeSet, contains}
 use Rattle.std.specs.Cmp.{nat_cmp_total}
 use Rattle.std.specs.Set.{is_member}
 use Rattle.std.proofs.lemmas.Bool.{cases_Bool, eq-eqb, eqb-true, eqb-false, ne_eqb, or_left, or_right, or_cases}
-use Rattle.std.proofs.lemmas.Bool.Decides.{nat_tests, Decides-eqb}
+use Rattle.std.proofs.lemmas.Bool.Decides.{Decides-eqb}
 use Rattle.std.proofs.lemmas.Map.Keys.{sorted_head, sorted_tail}
 use Rattle.std.proofs.lemmas.Map.Lookups.{exact_unsigned}
 use Rattle.std.proofs.lemmas.Map.Views.{btree_set_contains_iff}
 use Rattle.std.proofs.lemmas.Map.Made.{is_member-Decides}
-use Rattle.std.proofs.lemmas.List.Elements.{All-from_get_or}
-use Rattle.std.proofs.lemmas.List.FromFn.{length-range_with_len, get_or-range_with_len}
 use Rattle.planar_check.specs.Components.{greatest, distinct}
-use Rattle.planar_check.proofs.Counts.{range_all}
 use Rattle.planar_check.proofs.Strands.{filter_same, member_at_most}
-
-less : (x y : ℕ) → nat_cmp x y ≡ Less → x < y
-less x y h = grind (arith, nat_tests, h)
+use Rattle.list_lemmas.proofs.Ranges.{All-below, All-range}
+use Rattle.list_lemmas.proofs.Increasing.{less_of_nat_cmp}
 
 abbrev Between : ℕ → ℕ → ℕ → Type 0
 Between a n x = (a ≤ x) × (x < a + n)
@@ -30,17 +24,12 @@ Between a n x = (a ≤ x) × (x < a + n)
 above : (x : ℕ) (xs : List ℕ) → AllByRecursion (λ y. nat_cmp x y ≡ Less) xs → (y : ℕ) → is_member ◌==◌ xs y ≡ true → x < y
 above x [] h y m = absurd (grind (arith, m))
 above x (z ∷ zs) h y m =
-    ⊎_elim (λ e. let same = eqb-true y z e in let l = less x z h.0 in omega (arith, same, l)) (λ e. above x zs h.1 y e) (or_cases (y == z) (is_member ◌==◌ zs y) m)
+    ⊎_elim (λ e. let same = eqb-true y z e in let l = less_of_nat_cmp x z h.0 in omega (arith, same, l)) (λ e. above x zs h.1 y e) (or_cases (y == z) (is_member ◌==◌ zs y) m)
 
 -- the numbers from a on that stand in the list
 filter_none : (ns : List ℕ) → filter (λ (x : ℕ). is_member ◌==◌ [] x) ns ≡ []
 filter_none [] = refl
 filter_none (n ∷ ns) = filter_none ns
-
-range_from : (P : ℕ → Type 0) (a n : ℕ) → ((x : ℕ) → a ≤ x → x < a + n → P x) → All P (range_with_len a n)
-range_from P a n h = All-from_get_or P (range_with_len a n) 0 (λ i l.
-    let below : i < n = omega (arith, l, length-range_with_len a n) in
-    subst P (sym (get_or-range_with_len a n i 0 below)) (h (a + i) (omega arith) (omega (arith, below))))
 
 filter_is : (a n : ℕ) (xs : List ℕ) → IsStrictlySortedBy nat_cmp xs → ((x : ℕ) → is_member ◌==◌ xs x ≡ true → Between a n x) → filter (is_member ◌==◌ xs) (range_with_len a n) ≡ xs
 filter_is a n [] sorted within = filter_none (range_with_len a n)
@@ -60,7 +49,7 @@ filter_is a (suc n) (x ∷ xs) sorted within =
           let same = eqb-true a x e in
           let rest : filter (is_member ◌==◌ (x ∷ xs)) (range_with_len (a + 1) n) ≡ filter (is_member ◌==◌ xs) (range_with_len (a + 1) n) =
           filter_same (is_member ◌==◌ (x ∷ xs)) (is_member ◌==◌ xs) (range_with_len (a + 1) n)
-          (range_from (λ y. is_member ◌==◌ (x ∷ xs) y ≡ is_member ◌==◌ xs y) (a + 1) n (λ y l h. ap (λ (b : Bool). b || is_member ◌==◌ xs y) (ne_eqb y x (λ (s : y ≡ x). absurd (omega (arith, s, same, l)))))) in
+          (All-range (λ y. is_member ◌==◌ (x ∷ xs) y ≡ is_member ◌==◌ xs y) (a + 1) n (λ y l h. ap (λ (b : Bool). b || is_member ◌==◌ xs y) (ne_eqb y x (λ (s : y ≡ x). absurd (omega (arith, s, same, l)))))) in
           let first : is_member ◌==◌ (x ∷ xs) a ≡ true = or_left (a == x) (is_member ◌==◌ xs a) e in
           ap (λ (b : Bool). cond b (a ∷ filter (is_member ◌==◌ (x ∷ xs)) (range_with_len (a + 1) n)) (filter (is_member ◌==◌ (x ∷ xs)) (range_with_len (a + 1) n))) first
           ∙ (ap (λ (ys : List ℕ). a ∷ ys) (rest ∙ filter_is (a + 1) n xs (sorted_tail nat_cmp x xs sorted) later) ∙ ap (λ (y : ℕ). y ∷ xs) same))
@@ -84,7 +73,7 @@ unfolding distinct
 distinct_is labels keys sorted same =
     let n = greatest labels + 1 in
     sym (filter_is 0 n keys sorted (λ x m. (omega arith, (let h = member_at_most labels x (sym (same x) ∙ m) in omega (arith, h)))))
-    ∙ filter_same (is_member ◌==◌ keys) (is_member ◌==◌ labels) (range_with_len 0 n) (range_all (λ x. is_member ◌==◌ keys x ≡ is_member ◌==◌ labels x) n (λ x l. same x))
+    ∙ filter_same (is_member ◌==◌ keys) (is_member ◌==◌ labels) (range_with_len 0 n) (All-below (λ x. is_member ◌==◌ keys x ≡ is_member ◌==◌ labels x) n (λ x l. same x))
 
 -- what the set contains stands among its keys
 pub contains-member : (set : BTreeSet ℕ) (label : ℕ) → contains nat_cmp set label ≡ is_member ◌==◌ set.keys label

@@ -1,9 +1,7 @@
 -- A diagram has at most 512 components: each has a label that stands twice, of at most 1,024 that stand at
 -- the items. And the number of a label's component is from 1 to the number of components: the least label of the
 -- component is itself a label, and its own least label.
---
--- Others cite: few_components, number_first, number_last, join_inside, component_in_range.
-use Rattle.std.proofs.Common.{◌≡◌, ℕ, zero, suc, ◌+◌, ◌*◌, ◌<◌, ◌≤◌, ◌==◌, ◌&&◌, Bool, true, false, cond, leb, min, List, [], ◌∷◌, length, count_by, refl, sym, subst, ap, ◌∙◌, arith, Option, Some, None, IfSome, ⊎_elim, ◌⊎◌, inl, inr, length-append, fold, filter}
+use Rattle.std.proofs.Common.{◌≡◌, ℕ, zero, suc, ◌+◌, ◌*◌, ◌<◌, ◌≤◌, ◌==◌, Bool, true, cond, leb, min, List, [], ◌∷◌, length, count_by, refl, sym, subst, ap, ◌∙◌, arith, Option, Some, None, IfSome, ⊎_elim, ◌⊎◌, inl, inr, length-append, fold, filter}
 use Rattle.std.specs.List.{AllByRecursion, range_with_len, sum_by}
 use Rattle.std.specs.Set.{is_member}
 use Rattle.std.proofs.lemmas.Bool.{cases_Bool, cases_order, eq-eqb, eqb-true, or_cases, and_from}
@@ -17,8 +15,9 @@ use Rattle.pd_reader.specs.declared.item.Item.{Item}
 use Rattle.pd_reader.specs.declared.item.Item.TheVariants as items
 use Rattle.pd_reader.specs.Items.{item_labels, HasItsSlots}
 use Rattle.pd_reader.specs.Diagrams.{labels, times, IsDiagram}
-use Rattle.planar_check.specs.Components.{strand_edges, greatest, least_of, is_least_of, least_labels, number_of, component_of}
+use Rattle.planar_check.specs.Components.{strand_edges, greatest, component_least, is_least_of, least_labels, number_of, component_of}
 use Rattle.planar_check.proofs.Strands.{strands_inside, member_at_most}
+use Rattle.list_lemmas.proofs.Bools.{and_first}
 
 -- what a test counts
 abbrev once : Bool → ℕ
@@ -82,14 +81,10 @@ labels_short : (xs : List Item) → AllByRecursion HasItsSlots xs → length (la
 labels_short [] sizes = omega arith
 labels_short (x ∷ xs) sizes = omega (arith, length-append (item_labels x) (labels item_labels xs), item_short x sizes.0, labels_short xs sizes.1)
 
-at_member : (P : ℕ → Type 0) (xs : List ℕ) → AllByRecursion P xs → (x : ℕ) → is_member ◌==◌ xs x ≡ true → P x
+pub at_member : (P : ℕ → Type 0) (xs : List ℕ) → AllByRecursion P xs → (x : ℕ) → is_member ◌==◌ xs x ≡ true → P x
 at_member P [] h x m = absurd (grind (arith, m))
 at_member P (y ∷ ys) h x m =
     ⊎_elim (λ t. subst P (sym (eqb-true x y t)) h.0) (λ t. at_member P ys h.1 x t) (or_cases (x == y) (is_member ◌==◌ ys x) m)
-
-and_first : (a b : Bool) → a && b ≡ true → a ≡ true
-and_first true b h = refl
-and_first false b h = h
 
 module _ (xs : List Item) (diagram : IsDiagram xs) where
   abbrev ls : List ℕ
@@ -101,7 +96,7 @@ module _ (xs : List Item) (diagram : IsDiagram xs) where
   few_components =
       let n = greatest ls + 1 in
       let long = length-filter (is_least_of xs) (range_with_len 0 n) in
-      let half = twice-le (is_least_of xs) ls (range_with_len 0 n) (λ x t. at_member (λ label. times label ls ≡ 2) ls diagram.twice x (and_first (is_member ◌==◌ ls x) (least_of xs x == x) t)) in
+      let half = twice-le (is_least_of xs) ls (range_with_len 0 n) (λ x t. at_member (λ label. times label ls ≡ 2) ls diagram.twice x (and_first (is_member ◌==◌ ls x) (component_least xs x == x) t)) in
       omega (arith, long, half, sum-le n ls, labels_short xs diagram.sizes, diagram.few)
 
 -- ---- labels by least ones stay among the ends of edges
@@ -147,38 +142,38 @@ module _ (xs : List Item) (sizes : AllByRecursion HasItsSlots xs) where
   abbrev here : List ℕ
   here = labels item_labels xs
 
-  least_at_label : (x : ℕ) → is_member ◌==◌ here x ≡ true → least_of xs x ≡ least_label (strand_edges xs) x
-  unfolding least_of
+  least_at_label : (x : ℕ) → is_member ◌==◌ here x ≡ true → component_least xs x ≡ least_label (strand_edges xs) x
+  unfolding component_least
   least_at_label x m = least_name-label here (strand_edges xs) (strands_inside (is_member ◌==◌ here) xs sizes (λ y k. k)) x m
 
   -- the least label of a component is a label
-  least_is_label : (x : ℕ) → is_member ◌==◌ here x ≡ true → is_member ◌==◌ here (least_of xs x) ≡ true
+  pub least_is_label : (x : ℕ) → is_member ◌==◌ here x ≡ true → is_member ◌==◌ here (component_least xs x) ≡ true
   least_is_label x m =
       ap (is_member ◌==◌ here) (least_at_label x m)
       ∙ after_inside (is_member ◌==◌ here) (λ y. y) (strand_edges xs) (λ y k. k) (strands_inside (is_member ◌==◌ here) xs sizes (λ y k. k)) x m
 
   -- and its own least label
-  least_of_least : (x : ℕ) → is_member ◌==◌ here x ≡ true → least_of xs (least_of xs x) ≡ least_of xs x
-  least_of_least x m =
+  pub least_again : (x : ℕ) → is_member ◌==◌ here x ≡ true → component_least xs (component_least xs x) ≡ component_least xs x
+  least_again x m =
       let l : ℕ → ℕ = least_label (strand_edges xs) in
-      least_at_label (least_of xs x) (least_is_label x m)
+      least_at_label (component_least xs x) (least_is_label x m)
       ∙ (ap l (least_at_label x m) ∙ ((AreLeast-labels (strand_edges xs)).itself x ∙ sym (least_at_label x m)))
 
   -- NUMBERS FROM 1
   pub number_first : (x : ℕ) → is_member ◌==◌ here x ≡ true → 1 ≤ number_of xs x
   unfolding least_labels
   number_first x m =
-      let least = least_of xs x in
+      let least = component_least xs x in
       let there = least_is_label x m in
       let within : least < greatest here + 1 = (let h = member_at_most here least there in omega (arith, h)) in
       counted (is_least_of xs) (λ k. leb k least) (range_with_len 0 (greatest here + 1)) least
       (is_member-numbered (greatest here + 1) least within)
-      (and_from (is_member ◌==◌ here least) (least_of xs least == least) there (eq-eqb (least_of xs least) least (least_of_least x m)))
+      (and_from (is_member ◌==◌ here least) (component_least xs least == least) there (eq-eqb (component_least xs least) least (least_again x m)))
       (grind (arith, nat_tests))
 
 -- TO THE NUMBER OF COMPONENTS
 pub number_last : (xs : List Item) (x : ℕ) → number_of xs x ≤ length (least_labels xs)
-number_last xs x = count_by-le-length (λ least. leb least (least_of xs x)) (least_labels xs)
+number_last xs x = count_by-le-length (λ least. leb least (component_least xs x)) (least_labels xs)
 
 -- so the component of a label is in range
 pub component_in_range : (xs : List Item) → IsDiagram xs → (label : ℕ) (found : Option ℕ) → found ≡ component_of xs label → IfSome found (λ number. (1 ≤ number) × (number ≤ length (least_labels xs)))

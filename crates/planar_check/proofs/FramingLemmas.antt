@@ -1,6 +1,4 @@
 -- Where no framing is found large, none is.
---
--- Others cite: none_large.
 use Rattle.std.proofs.Common.{◌≡◌, ℕ, ◌+◌, ◌≤◌, Bool, false, cond, not, ltb, ℤ, List, [], ◌∷◌, length, Option, Some, None, inl, inr, ap, ◌∙◌, arith, All}
 use Rattle.std.specs.List.{position, position_or_len}
 use Rattle.std.proofs.lemmas.Bool.{cases_Bool, ltb-false}

@@ -1,17 +1,26 @@
 mod Examples
-mod Pushes
-mod Others
-mod OtherPlaces
-mod DistinctLabels
-mod Ranks
-mod ComponentLists
-mod Counts
-mod PlaceLists
-mod Cycles
-mod Strands
-mod Crossings
-mod FewComponents
-mod FramingLemmas
-mod CrossingComponents
-mod SignSums
-mod LinkingEntries
+pub mod Pushes
+pub mod Others
+pub mod OtherPlaces
+pub mod DistinctLabels
+pub mod Ranks
+pub mod ComponentLists
+pub mod Counts
+pub mod PlaceLists
+pub mod FaceLists
+pub mod PlaceTables
+pub mod FaceSteps
+pub mod Strands
+pub mod Crossings
+pub mod FewComponents
+pub mod FramingLemmas
+pub mod CrossingComponents
+pub mod SignSums
+pub mod LinkingEntries
+pub mod TwoPlaces
+pub mod Reversal
+pub mod OppositePlaces
+pub mod ComponentNumbers
+pub mod Directions
+pub mod OtherDirections
+pub mod FaceLaws

@@ -1,7 +1,5 @@
 -- The entries of the linking matrix: one entry more fits, and together they are a symmetric matrix, with the
 -- framings on its diagonal, the linking numbers elsewhere.
---
--- Others cite: fits_more, widened, entry_is, entries_long, equal_across.
 use Rattle.std.proofs.Common.{◌≡◌, ℕ, ◌+◌, ◌-◌, ◌*◌, ◌/◌, ◌%◌, ◌<◌, ◌^◌, ◌==◌, ◌&&◌, ◌||◌, Bool, true, false, not, cond, ℤ, pos, negsuc, ◌-ℤ◌, List, [], ◌∷◌, ◌++◌, length, map, count_by, get_or, IsTrue, FitsSigned, inl, inr, refl, sym, subst, ap, ap₂, ◌∙◌, arith, length-append, to_z, of_z}
 use Rattle.std.specs.Int.{w64, w128}
 use Rattle.std.specs.List.{range_with_len}
@@ -17,8 +15,9 @@ use Rattle.inertia_cert.specs.SymmetricMatrices.{square, AllFit, IsEqualAcross}
 use Rattle.inertia_cert.proofs.Bounds.{means_fits}
 use Rattle.planar_check.specs.declared.sign.Signed.{Signed}
 use Rattle.planar_check.specs.Signs.{is_between, is_plus, signs_between, signed_crossings, halved, linking}
-use Rattle.planar_check.specs.Framings.{FramedDiagram, framing_of, linking_entry, entry_from, AreSignSums}
+use Rattle.planar_check.specs.Framings.{FramedDiagram, framing_of, linking_entry}
 use Rattle.planar_check.proofs.SignSums.{place_below}
+use Rattle.planar_check.specs.Tables.{entry_from, AreSignSums}
 
 -- ---- what has 64 bits fits into 128
 long_fits : (z : ℤ) → FitsSigned w64 z → IsTrue (fits z)

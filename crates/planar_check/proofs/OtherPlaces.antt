@@ -1,18 +1,16 @@
 -- The other place of each place, as far as the places before the k-th tell it: where the k-th is met, only it and
 -- the first place of its label change.
---
--- Others cite: IsFirstMet, first_met_more, others_more, new_long, others_are, first_place_met.
 use Rattle.std.proofs.Common.{◌≡◌, ◌≢◌, ℕ, zero, suc, ◌+◌, ◌<◌, ◌≤◌, ◌==◌, Bool, true, false, cond, List, [], ◌∷◌, ◌++◌, length, set, slice_index, Option, Some, None, MatchOption, unwrap_or, ◌⊎◌, length-append, inl, inr, refl, sym, subst, ap, ◌∙◌, arith, ⊎_elim, ne_eqb, eq-eqb}
-use Rattle.std.specs.List.{range_with_len}
-use Rattle.std.proofs.lemmas.Bool.{cases_Bool, cases_order, eqb-true, eqb-false}
+use Rattle.std.specs.List.{position_or_len, range_with_len}
+use Rattle.std.proofs.lemmas.List.Sums.{position_or_len_is}
+use Rattle.std.proofs.lemmas.Bool.{cases_Bool, cases_order, eqb-true, eqb-false, le-ltb, lt-ltb}
 use Rattle.std.proofs.lemmas.List.{get_or-set_same, get_or-set_other, length-set, ext_get_or}
 use Rattle.std.proofs.lemmas.List.FromFn.{length-map-range_with_len, get_or-map-range_with_len}
 use Rattle.std.proofs.Math.ListN.{get_or-append}
 use Rattle.std.proofs.Math.Seq.{get_or-append_seam}
-use Rattle.planar_check.specs.Places.{first_passing, is_across, other_place, other_places}
-use Rattle.planar_check.specs.Signs.{first_place}
-use Rattle.planar_check.proofs.Counts.{range_next}
+use Rattle.planar_check.specs.Places.{first_passing, is_across, other_place, other_places, first_place}
 use Rattle.planar_check.proofs.Others.{across, across_same, across_not}
+use Rattle.list_lemmas.proofs.Ranges.{range_push}
 
 -- the first of the first k places at which the label stands, if there is one
 abbrev pub IsFirstMet : List ℕ → ℕ → ℕ → Option ℕ → Type 0
@@ -72,7 +70,7 @@ module _ (labels : List ℕ) where
   other_so_far p k = first_passing (is_across labels p) (range_with_len 0 k) p
 
   one_more : (p k : ℕ) → other_so_far p (k + 1) ≡ first_passing (is_across labels p) (range_with_len 0 k) (cond (is_across labels p k) k p)
-  one_more p k = ap (λ (ns : List ℕ). first_passing (is_across labels p) ns p) (range_next k) ∙ first_passing-append (is_across labels p) (range_with_len 0 k) (k ∷ []) p
+  one_more p k = ap (λ (ns : List ℕ). first_passing (is_across labels p) ns p) (range_push k) ∙ first_passing-append (is_across labels p) (range_with_len 0 k) (k ∷ []) p
 
   apart_from : (p q : ℕ) → slice_index labels q ≢ slice_index labels p → is_across labels p q ≡ false
   apart_from p q d = elim (cases_Bool (q == p)) [
@@ -237,9 +235,15 @@ others_are labels k others whole long are =
     ∙ sym (get_or-map-range_with_len (other_place labels) 0 (length labels) p p 0 within here)))
 
 -- the first place of a label, when each place was met
-pub first_place_met : (labels : List ℕ) (k label : ℕ) (found : Option ℕ) → k ≡ length labels → IsFirstMet labels k label found → unwrap_or found 0 ≡ first_place labels label
+pub first_place_met : (labels : List ℕ) (k label : ℕ) (found : Option ℕ) → k ≡ length labels → IsFirstMet labels k label found → found ≡ first_place labels label
 first_place_met labels k label None whole none =
-    sym (none_from (λ p. slice_index labels p == label) 0 (length labels) 0 (λ q g l. ne_eqb (slice_index labels q) label (none q (omega (arith, l, whole)))))
+    let test : ℕ → Bool = λ other. other == label in
+    let at : position_or_len test labels ≡ length labels =
+    position_or_len_is test labels (length labels) 0 (omega arith) (λ j h. ne_eqb (slice_index labels j) label (none j (omega (arith, h, whole)))) (λ h. absurd (omega (arith, h))) in
+    sym (ap (λ (b : Bool). cond b (Some (position_or_len test labels)) None) (le-ltb (position_or_len test labels) (length labels) (omega (arith, at))))
 first_place_met labels k label (Some f) whole h =
-    sym (first_from (λ p. slice_index labels p == label) 0 (length labels) f 0 (omega arith) (let l = h.0 in omega (arith, l, whole)) (eq-eqb (slice_index labels f) label h.1)
-    (λ q g l. ne_eqb (slice_index labels q) label (h.2 q l)))
+    let test : ℕ → Bool = λ other. other == label in
+    let within : f < length labels = (let l = h.0 in omega (arith, l, whole)) in
+    let at : position_or_len test labels ≡ f =
+    position_or_len_is test labels f 0 (omega (arith, within)) (λ j l. ne_eqb (slice_index labels j) label (h.2 j l)) (λ l. eq-eqb (slice_index labels f) label h.1) in
+    sym (ap (λ (b : Bool). cond b (Some (position_or_len test labels)) None) (lt-ltb (position_or_len test labels) (length labels) (omega (arith, at, within))) ∙ ap (λ (q : ℕ). Some q) at)

@@ -1,7 +1,5 @@
 -- Whether a place is across the edge from another; and what comes behind a list that is made by a function of
 -- the index, or of the elements of another list.
---
--- Others cite: across, across_same, across_not, mapped_push, mapped_more.
 use Rattle.std.proofs.Common.{◌≡◌, ◌≢◌, ℕ, ◌+◌, ◌<◌, true, false, List, [], ◌∷◌, ◌++◌, map, length, take, slice_index, refl, sym, ap, ◌∙◌, arith, eq-eqb, ne_eqb}
 use Rattle.std.specs.List.{range_with_len}
 use Rattle.std.proofs.lemmas.List.{take_more, map-append}

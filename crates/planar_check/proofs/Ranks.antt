@@ -1,7 +1,5 @@
 -- Ranks in a strictly increasing list of names: a name's rank is its index, ranks are in the order of the
 -- names, and so the least names of parts are told by the least ranks.
---
--- Others cite: rank_at, at_rank, rank_found, rank_absent, least_by_rank, least_inside, ranks_below, count_found.
 use Rattle.std.proofs.Common.{◌≡◌, ◌≢◌, ℕ, ◌+◌, ◌<◌, ◌≤◌, ◌==◌, ◌||◌, Bool, true, false, cond, min, nat_lt, List, [], ◌∷◌, length, map, get_or, slice_index, Result, Ok, Err, MatchResult, leb, count_by, zero, suc, inl, inr, refl, sym, subst, ap, ap₂, ◌∙◌, arith, ⊎_elim, fold, le-leb}
 use Rattle.std.specs.List.Sorted.{IsStrictlySortedBy, IsBinarySearchResult}
 use Rattle.std.specs.Ordering.{nat_cmp}
@@ -134,18 +132,22 @@ count_split p (x ∷ xs) (suc i) l before behind =
     let one : once (p x) ≡ 1 = ap once (before 0 (omega arith)) in
     omega (arith, more, one, count_split p xs i (omega (arith, l)) (λ k h. before (suc k) (omega (arith, h))) (λ k g h. behind (suc k) (omega (arith, g)) (omega (arith, h))))
 
+-- the numbers up to an element are as many as its index tells
+pub count_at : (numbers : List ℕ) (most i : ℕ) → IsStrictlySortedBy nat_cmp numbers → i < length numbers → get_or numbers i 0 ≡ most → i + 1 ≡ count_by (λ number. leb number most) numbers
+count_at numbers most i sorted within is =
+    count_split (λ number. leb number most) numbers (i + 1) (omega (arith, within))
+    (λ k l. le-leb (get_or numbers k 0) most (⊎_elim
+    (λ s. let same = ap (λ m. get_or numbers m 0) s in omega (arith, same, is))
+    (λ o. ⊎_elim (λ s. let below = below_from_sorted numbers k i 0 sorted s within in omega (arith, below, is)) (λ s. absurd (omega (arith, s, l))) o)
+    (cases_order k i)))
+    (λ k g l. lt-leb (get_or numbers k 0) most (let above = below_from_sorted numbers i k 0 sorted (omega (arith, g)) l in omega (arith, above, is)))
+
 pub count_found : (numbers : List ℕ) (most : ℕ) (found : Result ℕ ℕ) → IsStrictlySortedBy nat_cmp numbers → IsBinarySearchResult (λ y. nat_cmp y most) numbers found →
     MatchResult found (λ last. last + 1 ≡ count_by (λ number. leb number most) numbers) (λ next. next ≡ count_by (λ number. leb number most) numbers)
 count_found numbers most found sorted is = told found (searched numbers most found is (λ i j h l. non_decreasing_from_sorted numbers sorted i j 0 h l)) where
   told : (r : Result ℕ ℕ) → MatchResult r (λ i. (i < length numbers) × (get_or numbers i 0 ≡ most)) (λ i. (i ≤ length numbers) × ((k : ℕ) → k < i → get_or numbers k 0 < most) × ((k : ℕ) → i ≤ k → k < length numbers → most < get_or numbers k 0))
       → MatchResult r (λ last. last + 1 ≡ count_by (λ number. leb number most) numbers) (λ next. next ≡ count_by (λ number. leb number most) numbers)
-  told (Ok i) h =
-      count_split (λ number. leb number most) numbers (i + 1) (omega (arith, h.0))
-      (λ k l. le-leb (get_or numbers k 0) most (⊎_elim
-      (λ s. let same = ap (λ m. get_or numbers m 0) s in omega (arith, same, h.1))
-      (λ o. ⊎_elim (λ s. let below = below_from_sorted numbers k i 0 sorted s h.0 in omega (arith, below, h.1)) (λ s. absurd (omega (arith, s, l))) o)
-      (cases_order k i)))
-      (λ k g l. lt-leb (get_or numbers k 0) most (let above = below_from_sorted numbers i k 0 sorted (omega (arith, g)) l in omega (arith, above, h.1)))
+  told (Ok i) h = count_at numbers most i sorted h.0 h.1
   told (Err i) h =
       count_split (λ number. leb number most) numbers i h.0
       (λ k l. le-leb (get_or numbers k 0) most (let below = h.1 k l in omega (arith, below)))

@@ -1,6 +1,4 @@
 -- One crossing more in the table of the sums of signs between components.
---
--- Others cite: twice_set_are, itself_skipped, first_small, second_small, sum_small, place_below.
 use Rattle.std.proofs.Common.{◌≡◌, ◌≢◌, ◌⊎◌, ◌-◌, ℕ, ◌+◌, ◌*◌, ◌/◌, ◌<◌, ◌≤◌, ◌^◌, ◌==◌, ◌&&◌, Bool, true, false, not, cond, ℤ, pos, ◌+ℤ◌, ◌-ℤ◌, List, [], ◌∷◌, ◌++◌, length, count_by, get_or, set, refl, sym, ap, ap₂, ◌∙◌, arith, ⊎_elim, inl, inr, unsigned_abs}
 use Rattle.std.proofs.lemmas.Bool.{cases_Bool, eq-eqb, eqb-true, eqb-false}
 use Rattle.std.proofs.lemmas.Bool.Decides.{nat_tests}
@@ -12,7 +10,7 @@ use Rattle.planar_check.specs.declared.sign.Sign.{Sign}
 use Rattle.planar_check.specs.declared.sign.Sign.TheVariants as signs
 use Rattle.planar_check.specs.declared.sign.Signed.{Signed}
 use Rattle.planar_check.specs.Signs.{is_between, is_plus, signs_between}
-use Rattle.planar_check.specs.Framings.{sign_value, IsWithin, AreSignSums}
+use Rattle.planar_check.specs.Tables.{sign_value, IsWithin, AreSignSums}
 
 -- ---- sums of signs
 abbrev once : Bool → ℕ

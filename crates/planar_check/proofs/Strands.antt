@@ -1,6 +1,4 @@
 -- The strands of one item more, that the ends of strands are labels, and that no label is above the greatest.
---
--- Others cite: strand_edges-push, member_at_most, strands_inside, ends_below, filter_same, labels_more, strands_more.
 use Rattle.std.proofs.Common.{take, cond, map, get_or, ◌≡◌, ℕ, ◌+◌, ◌<◌, ◌≤◌, ◌==◌, ◌||◌, Bool, true, List, [], ◌∷◌, ◌++◌, length, slice_index, refl, sym, ap, ◌∙◌, arith, append_assoc, append-nil, All, ⊎_elim}
 use Rattle.std.specs.List.{AllByRecursion, filter}
 use Rattle.std.specs.Set.{is_member}

@@ -4,7 +4,7 @@
 -- Components are numbered from 1 in the order of their least labels.
 --
 --     strand_edges items         the labels that a strand of a crossing joins
---     least_of items label       the least label of the label's component
+--     component_least items label    the least label of the label's component
 --     is_least_of items label    the label is one of the diagram, and the least of its component
 --     distinct labels            the different labels of a list, in increasing order
 --     rank names label           the index of a label in a list
@@ -14,7 +14,7 @@
 --     component_of items label   that number, or nothing where the label is not in the diagram
 --
 -- The Hopf link X[2,4,3,1] X[4,2,1,3] has the components 1,4 and 2,3, with the least labels 1 and 2.
-use Rattle.std.specs.Prelude.{ℕ, ◌+◌, ◌==◌, ◌≡◌, ◌<◌, ◌^◌, ◌&&◌, Bool, nat_le, max, map, if◌then◌else◌, List, [], ◌∷◌, ◌++◌, length, slice_index, count_by, Option, Some, None}
+use Rattle.std.specs.Prelude.{ℕ, ◌+◌, ◌==◌, ◌&&◌, Bool, nat_le, max, if◌then◌else◌, List, [], ◌∷◌, ◌++◌, slice_index, count_by, Option, Some, None}
 use Rattle.std.specs.List.{filter, position_or_len, range_with_len}
 use Rattle.std.specs.Set.{is_member}
 use Rattle.graph_parts.specs.LeastNames.{least_name}
@@ -33,12 +33,12 @@ strand_edges [] = []
 strand_edges (item ∷ items) = item_strands item ++ strand_edges items
 
 -- the least label of the label's component
-unfoldable pub least_of : List Item → ℕ → ℕ
-least_of items label = least_name (labels item_labels items) (strand_edges items) label
+unfoldable pub component_least : List Item → ℕ → ℕ
+component_least items label = least_name (labels item_labels items) (strand_edges items) label
 
 -- the label is one of the diagram, and the least of its component
 abbrev pub is_least_of : List Item → ℕ → Bool
-is_least_of items label = is_member ◌==◌ (labels item_labels items) label && least_of items label == label
+is_least_of items label = is_member ◌==◌ (labels item_labels items) label && component_least items label == label
 
 -- the greatest number of a list, or 0
 abbrev pub greatest : List ℕ → ℕ
@@ -59,15 +59,8 @@ least_labels items = filter (is_least_of items) (range_with_len 0 (greatest (lab
 
 -- the number of the label's component
 abbrev pub number_of : List Item → ℕ → ℕ
-number_of items label = count_by (λ least. nat_le least (least_of items label)) (least_labels items)
+number_of items label = count_by (λ least. nat_le least (component_least items label)) (least_labels items)
 
 -- that number, for a label of the diagram
 abbrev pub component_of : List Item → ℕ → Option ℕ
 component_of items label = if is_member ◌==◌ (labels item_labels items) label then Some (number_of items label) else None
-
--- the different labels of a diagram's items, the least label of each one's component, and those of all components
-pub record AreComponents (items : List Item) (names leasts firsts : List ℕ) : Type 0 where
-  pub names_are : names ≡ distinct (labels item_labels items)
-  pub leasts_are : leasts ≡ map (least_of items) names
-  pub firsts_are : firsts ≡ least_labels items
-  pub few : length firsts < 2 ^ 32

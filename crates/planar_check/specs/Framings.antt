@@ -11,15 +11,12 @@
 --
 -- The chain X[1,6,2,5] X[6,3,5,2] X[3,8,4,7] X[8,1,7,4] of three with the framings 0,0,0 has the rows 0,1,1;
 -- 1,0,0; 1,0,0.
-use Rattle.std.specs.Prelude.{◌≡◌, ◌≢◌, ℕ, suc, ◌+◌, ◌-◌, ◌*◌, ◌/◌, ◌%◌, ◌^◌, ◌<◌, ◌≤◌, ◌==◌, ℤ, pos, negsuc, Bool, false, nat_lt, if◌then◌else◌, List, length, slice_index_or, Option, option_map}
+use Rattle.std.specs.Prelude.{◌≡◌, ℕ, suc, ◌-◌, ◌^◌, ◌==◌, ℤ, pos, Bool, false, nat_lt, if◌then◌else◌, List, length, slice_index_or, Option, option_map}
 use Rattle.std.specs.Int.RustNames.{unsigned_abs}
 use Rattle.std.specs.List.{All, position}
 use Rattle.pd_reader.specs.declared.item.Item.{Item}
 use Rattle.planar_check.specs.Components.{least_labels}
-use Rattle.planar_check.specs.declared.sign.Sign.{Sign}
-use Rattle.planar_check.specs.declared.sign.Sign.TheVariants as signs
-use Rattle.planar_check.specs.declared.sign.Signed.{Signed}
-use Rattle.planar_check.specs.Signs.{linking, halved, signs_between}
+use Rattle.planar_check.specs.Signs.{linking}
 
 -- a diagram with a framing for each component
 pub record FramedDiagram : Type 0 where
@@ -46,27 +43,3 @@ pub record IsFramed (framed : FramedDiagram) : Type 0 where
 -- the framings on the diagonal, the linking numbers elsewhere
 abbrev pub linking_entry : FramedDiagram → ℕ → ℕ → ℤ
 linking_entry framed i j = if i == j then framing_of framed i else linking framed.items i j
-
--- ---- what the fill of the matrix keeps
--- +1 or -1
-abbrev pub sign_value : Sign → ℤ
-sign_value signs.Plus = pos 1
-sign_value signs.Minus = negsuc 0
-
--- the components of the crossing's strands are of the first n
-pub record IsWithin (n : ℕ) (crossing : Signed) : Type 0 where
-  pub under_first : 1 ≤ crossing.under
-  pub under_last : crossing.under ≤ n
-  pub over_first : 1 ≤ crossing.over
-  pub over_last : crossing.over ≤ n
-
--- off the diagonal stand the sums of the signs between two of n components, rows one after the other
-pub record AreSignSums (n : ℕ) (list : List Signed) (sums : List ℤ) : Type 0 where
-  pub full : length sums ≡ n * n
-  pub between : (i j : ℕ) → i < n → j < n → i ≢ j → slice_index_or sums (i * n + j) (pos 0) ≡ signs_between (i + 1) (j + 1) list
-
--- the entry at a place of the matrix, where the framings and the table of sums are given
-abbrev pub entry_from : List ℤ → List ℤ → ℕ → ℤ
-entry_from framings sums place =
-    let n = length framings in
-    if place / n == place % n then slice_index_or framings (place / n) (pos 0) else halved (slice_index_or sums place (pos 0))

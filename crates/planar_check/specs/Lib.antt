@@ -3,4 +3,7 @@ pub mod Planar
 pub mod Faces
 pub mod Components
 pub mod Signs
+pub mod Directions
 pub mod Framings
+pub mod Tables
+pub mod Laws

@@ -4,18 +4,17 @@
 -- function that gives an item's slots.
 --
 --     item_slots item            the labels at an item's slots; net_item_slots the same for a net
---     crossings slots_of items   the labels at each item that has slots, item by item
+--     slot_lists slots_of items   the labels at each item that has slots, item by item
 --     labels_by_place crossings  for each place the label that stands there
---     turned_places n crossings  for each place the next one counterclockwise at its item, where the
+--     slots_after n crossings  for each place the next one counterclockwise at its item, where the
 --                                first place has the number n
 --     owners n crossings         for each place the number of its item, where the first has n
 --     other_places labels        for each place the other place of its label: across the edge
 --
 -- For X[1,4,2,5] X[3,6,4,1] X[5,2,6,3], the left-handed trefoil: the label 4 stands at the places 1
 -- and 6, and counterclockwise from the place 6 comes the place 7, from 7 the place 4.
-use Rattle.std.specs.Prelude.{◌≡◌, ℕ, Bool, ◌+◌, ◌%◌, ◌==◌, ◌&&◌, not, nat_lt, if◌then◌else◌, List, [], ◌∷◌, ◌++◌, length, map, slice_index}
-use Rattle.std.specs.List.{filter, range_with_len}
-use Rattle.planar_check.specs.declared.placed.Places.{Places}
+use Rattle.std.specs.Prelude.{ℕ, Bool, ◌+◌, ◌%◌, ◌==◌, ◌&&◌, not, nat_lt, if◌then◌else◌, List, [], ◌∷◌, ◌++◌, length, map, slice_index, Option}
+use Rattle.std.specs.List.{filter, position, range_with_len}
 use Rattle.pd_reader.specs.declared.item.Item.{Item}
 use Rattle.pd_reader.specs.declared.item.Item.TheVariants as items
 use Rattle.pd_reader.specs.declared.item.NetItem.{NetItem}
@@ -33,28 +32,32 @@ net_item_slots (net_items.Y edges) = edges
 net_item_slots (net_items.Loop label) = []
 
 -- the labels at each item that has slots
-abbrev pub crossings : {I : Type 0} → (I → List ℕ) → List I → List (List ℕ)
-crossings slots_of items = filter (λ slots. nat_lt 0 (length slots)) (map slots_of items)
+abbrev pub slot_lists : {I : Type 0} → (I → List ℕ) → List I → List (List ℕ)
+slot_lists slots_of items = filter (λ slots. nat_lt 0 (length slots)) (map slots_of items)
 
 -- for each place the label that stands there
 abbrev pub labels_by_place : List (List ℕ) → List ℕ
 labels_by_place [] = []
-labels_by_place (slots ∷ crossings) = slots ++ labels_by_place crossings
+labels_by_place (slots ∷ lists) = slots ++ labels_by_place lists
 
 -- the next place at an item of n slots whose first place is the given one
-abbrev pub turned : ℕ → ℕ → ℕ → ℕ
-turned start n slot = start + (slot + 1) % n
+abbrev pub slot_after : ℕ → ℕ → ℕ → ℕ
+slot_after start n slot = start + (slot + 1) % n
 
 -- for each place the next one counterclockwise at its item
-abbrev pub turned_places : ℕ → List (List ℕ) → List ℕ
-turned_places start [] = []
-turned_places start (slots ∷ crossings) =
-    map (turned start (length slots)) (range_with_len 0 (length slots)) ++ turned_places (start + length slots) crossings
+abbrev pub slots_after : ℕ → List (List ℕ) → List ℕ
+slots_after start [] = []
+slots_after start (slots ∷ lists) =
+    map (slot_after start (length slots)) (range_with_len 0 (length slots)) ++ slots_after (start + length slots) lists
 
 -- for each place the number of its item
 abbrev pub owners : ℕ → List (List ℕ) → List ℕ
 owners number [] = []
-owners number (slots ∷ crossings) = map (λ _. number) slots ++ owners (number + 1) crossings
+owners number (slots ∷ lists) = map (λ _. number) slots ++ owners (number + 1) lists
+
+-- the first place of the label, if it stands at one
+abbrev pub first_place : List ℕ → ℕ → Option ℕ
+first_place labels label = position (λ other. other == label) labels
 
 -- the first number of the list that passes the test, or the last argument
 abbrev pub first_passing : (ℕ → Bool) → List ℕ → ℕ → ℕ
@@ -73,10 +76,10 @@ other_place labels p = first_passing (is_across labels p) (range_with_len 0 (len
 abbrev pub other_places : List ℕ → List ℕ
 other_places labels = map (other_place labels) (range_with_len 0 (length labels))
 
--- what is known of each place of the items with these slots
-pub record ArePlaces (crossings : List (List ℕ)) (places : Places) : Type 0 where
-  pub labels_are : places.labels.items ≡ labels_by_place crossings
-  pub turns_are : places.turns.items ≡ turned_places 0 crossings
-  pub owners_are : places.owners.items ≡ owners 0 crossings
-  pub others_are : places.others.items ≡ other_places (labels_by_place crossings)
-  pub count_is : places.crossings ≡ length crossings
+-- the crossings of a diagram, by the labels at their slots
+abbrev pub crossings_of : List Item → List (List ℕ)
+crossings_of items = slot_lists item_slots items
+
+-- for each place of a diagram the label that stands there
+abbrev pub place_labels : List Item → List ℕ
+place_labels items = labels_by_place (crossings_of items)

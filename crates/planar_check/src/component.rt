@@ -1,4 +1,4 @@
-//! The components of a diagram: labels, the strands that join them, and the least label of each class.
+//! The components of a diagram: the strands that join its labels, and the least label of each class.
 
 ghost use Rattle.std.specs.Prelude.{MatchOption, nat_le, count_by, ◌≡◌, ◌==◌, ◌++◌, ◌^◌, ◌<◌, ◌≤◌, ℕ, length, map, slice_index, vec_len, IfOk, OnOk};
 ghost use Rattle.std.specs.List.{All, filter};
@@ -7,37 +7,17 @@ ghost use Rattle.std.specs.Ordering.{nat_cmp};
 ghost use Rattle.graph_parts.specs.Renaming.{renamed};
 ghost use Rattle.pd_reader.specs.Items.{item_labels};
 ghost use Rattle.pd_reader.specs.Diagrams.{labels, IsDiagram};
-ghost use Rattle.planar_check.specs.Signs.{crossings_of, AreCrossings};
-ghost use Rattle.planar_check.specs.Places.{ArePlaces};
-ghost use Rattle.planar_check.specs.Components.{item_strands, strand_edges, distinct, rank, least_of, AreComponents};
+ghost use Rattle.planar_check.specs.Places.{crossings_of};
+ghost use Rattle.planar_check.specs.Components.{item_strands, strand_edges, distinct, rank, component_least};
+ghost use Rattle.planar_check.specs.Tables.{ArePlaces, AreComponents, AreEntered, AreCrossings};
 
+use crate::cycles::least_in_walks;
 use crate::distinct::{distinct, rank};
 use crate::placed::Places;
-use crate::sign::{Signed, signed_crossings};
+use crate::sign::{Signed, entered, leasts_at, signed_crossings};
 use part_labels::least_names;
-use pd_reader::Item;
+use pd_reader::{Item, labels};
 use std::alloc::{AllocError, Global};
-
-/// Puts the item's labels behind those of the items before it, a loop's twice.
-fn push_labels(found: &mut Vec<u32>, item: &Item) -> Result<(), AllocError>
-    ensures { OnOk result (found.new.items ≡ found.old.items ++ item_labels item.now) }
-{
-    match item {
-        Item::X(slots) => found.extend_from_slice(slots),
-        Item::Loop(label) => found.extend_from_slice(&[*label, *label]),
-    }
-}
-
-/// The labels of the items, one item after the other.
-fn labels(alloc: Global, items: &[Item]) -> Result<Vec<u32>, AllocError>
-    ensures { IfOk result (λ found. found.items ≡ labels item_labels items.now) }
-{
-    let mut found = Vec::new(alloc);
-    for item in items {
-        push_labels(&mut found, item)?;
-    }
-    Ok(found)
-}
 
 /// Puts what the item's strands join behind that of the items before it, each label as its rank.
 fn push_strands(
@@ -89,7 +69,7 @@ fn named(alloc: Global, names: &[u32], ranks: &[usize]) -> Result<Vec<u32>, Allo
 fn leasts_of(alloc: Global, items: &[Item], names: &[u32]) -> Result<Vec<u32>, AllocError>
     requires diagram { IsDiagram items.now }
     requires names { names.now ≡ distinct (labels item_labels items.now) }
-    ensures { IfOk result (λ leasts. leasts.items ≡ map (least_of items.now) names.now) }
+    ensures { IfOk result (λ leasts. leasts.items ≡ map (component_least items.now) names.now) }
 {
     let edges = strand_edges(alloc, items, names)?;
     let ranks = least_names(alloc, names.len(), &edges)?;
@@ -111,7 +91,7 @@ fn own_names(alloc: Global, names: &[u32], leasts: &[u32]) -> Result<Vec<u32>, A
     Ok(own)
 }
 
-/// The components of a diagram, as the least label of each and of each label's.
+/// The components of a diagram, as the least label of each and of each label's, with their walks and crossings.
 #[derive(Drop, Debug)]
 pub(crate) struct Components {
     /// The different labels, in increasing order.
@@ -119,7 +99,9 @@ pub(crate) struct Components {
     /// For each of these the least label of its component.
     pub leasts: Vec<u32>,
     /// The least label of each component, in increasing order.
-    pub firsts: Vec<u32>,
+    pub least_labels: Vec<u32>,
+    /// For each place whether the walk of its component enters there.
+    pub entered: Vec<bool>,
     /// The crossings in their order.
     pub crossings: Vec<Signed>,
 }
@@ -129,19 +111,23 @@ impl Components {
     pub fn of(alloc: Global, items: &[Item], places: &Places) -> Result<Components, AllocError>
         requires diagram { IsDiagram items.now }
         requires places { ArePlaces (crossings_of items.now) places.now }
-        requires few { places.now.crossings ≤ 256 }
-        ensures components { IfOk result (λ found. AreComponents items.now found.names.items found.leasts.items found.firsts.items) }
+        ensures components { IfOk result (λ found. AreComponents items.now found.names.items found.leasts.items found.least_labels.items) }
+        ensures entered { IfOk result (λ found. AreEntered items.now found.entered.items) }
         ensures crossings { IfOk result (λ found. AreCrossings items.now found.crossings.items) }
     {
         let labels = labels(alloc, items)?;
         let names = distinct(alloc, &labels)?;
         let leasts = leasts_of(alloc, items, &names)?;
-        let firsts = own_names(alloc, &names, &leasts)?;
-        let crossings = signed_crossings(alloc, items, places, &names, &leasts, &firsts)?;
+        let all = own_names(alloc, &names, &leasts)?;
+        let walks = least_in_walks(alloc, &places.after, &places.others)?;
+        let there = leasts_at(alloc, &places.labels, &names, &leasts)?;
+        let entered = entered(alloc, &places.firsts, &walks, &there)?;
+        let crossings = signed_crossings(alloc, &entered, &there, &all, places.item_count)?;
         Ok(Components {
             names,
             leasts,
-            firsts,
+            least_labels: all,
+            entered,
             crossings,
         })
     }
@@ -159,17 +145,18 @@ pub(crate) fn count_at_most(numbers: &[u32], most: u32) -> u32
     }
 }
 
-/// The number of the label's component, or nothing where the label is none of the names.
-pub(crate) fn component_of(names: &[u32], leasts: &[u32], firsts: &[u32], label: u32) -> Option<u32>
+/// The number of the label's component, or nothing where the label is none of the names: `all` are the least
+/// labels of all components.
+pub(crate) fn component_of(names: &[u32], leasts: &[u32], all: &[u32], label: u32) -> Option<u32>
     requires sorted { IsStrictlySortedBy nat_cmp names.now }
-    requires sorted_firsts { IsStrictlySortedBy nat_cmp firsts.now }
-    requires few { length firsts.now < 2 ^ 32 }
+    requires sorted_all { IsStrictlySortedBy nat_cmp all.now }
+    requires few { length all.now < 2 ^ 32 }
     ensures { MatchOption result (length leasts.now ≤ rank names.now label) (λ number. (rank names.now label < length leasts.now)
-        × (number ≡ count_by (λ first. nat_le first (slice_index leasts.now (rank names.now label))) firsts.now)) }
+        × (number ≡ count_by (λ least. nat_le least (slice_index leasts.now (rank names.now label))) all.now)) }
 {
     let rank = rank(names, label);
     if rank < leasts.len() {
-        Some(count_at_most(firsts, leasts[rank]))
+        Some(count_at_most(all, leasts[rank]))
     } else {
         None
     }

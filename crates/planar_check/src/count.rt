@@ -1,15 +1,15 @@
-//! How many faces, connected pieces and edges there are.
+//! How many parts, connected pieces and edges there are.
 
 ghost use Rattle.std.specs.Prelude.{◌≡◌, ◌==◌, ◌<◌, ◌≤◌, length, slice_index, count_by, IfOk};
 ghost use Rattle.std.specs.List.{All, range_with_len};
 ghost use Rattle.graph_parts.specs.Parts.{part_count};
-ghost use Rattle.planar_check.specs.Planar.{face_edges, piece_edges, count_edges};
+ghost use Rattle.planar_check.specs.Planar.{piece_edges, count_edges};
 
 use part_labels::least_names;
 use std::alloc::{AllocError, Global};
 
 /// How many names are their own entry.
-fn count_least(entries: &[usize]) -> usize
+pub(crate) fn count_least(entries: &[usize]) -> usize
     ensures count { result ≡ count_by (λ x. slice_index entries.now x == x) (range_with_len 0 (length entries.now)) }
     ensures few { result ≤ length entries.now }
 {
@@ -30,41 +30,6 @@ fn count_parts(alloc: Global, names: usize, edges: &[(usize, usize)]) -> Result<
 {
     let entries = least_names(alloc, names, edges)?;
     Ok(count_least(&entries))
-}
-
-/// Each place with the one that follows it in its face.
-pub(crate) fn face_edges(
-    alloc: Global,
-    turns: &[usize],
-    others: &[usize],
-) -> Result<Vec<(usize, usize)>, AllocError>
-    requires same_length { length turns.now ≡ length others.now }
-    requires turns_in_range { All (λ place. place < length others.now) turns.now }
-    requires others_in_range { All (λ place. place < length others.now) others.now }
-    ensures edges { IfOk result (λ edges. edges.items ≡ face_edges turns.now others.now) }
-    ensures among { IfOk result (λ edges. All (λ edge. (edge.0 < length others.now) × (edge.1 < length others.now)) edges.items) }
-{
-    let mut edges = Vec::new(alloc);
-    for place in 0..others.len() {
-        edges.push((place, turns[others[place]]))?;
-    }
-    Ok(edges)
-}
-
-/// How many faces there are.
-pub(crate) fn count_faces(
-    alloc: Global,
-    turns: &[usize],
-    others: &[usize],
-) -> Result<usize, AllocError>
-    requires same_length { length turns.now ≡ length others.now }
-    requires turns_in_range { All (λ place. place < length others.now) turns.now }
-    requires others_in_range { All (λ place. place < length others.now) others.now }
-    ensures count { IfOk result (λ count. count ≡ part_count (range_with_len 0 (length others.now)) (face_edges turns.now others.now)) }
-    ensures few { IfOk result (λ count. count ≤ length others.now) }
-{
-    let edges = face_edges(alloc, turns, others)?;
-    count_parts(alloc, others.len(), &edges)
 }
 
 /// How many connected pieces this many items make.

@@ -4,10 +4,12 @@
 
 mod component;
 mod count;
+mod cycles;
 mod distinct;
 mod face;
 mod fault;
 mod framed;
+mod laws;
 mod linking;
 mod other;
 mod placed;
@@ -19,6 +21,9 @@ mod tests;
 pub use face::{Face, faces};
 pub use fault::{FramedFault, PlanarFault};
 pub use framed::Framed;
+pub use laws::{
+    faces_told, one_direction, reversed_direction, signs_by_direction, walk_directions,
+};
 pub use linking::linking_matrix;
 pub use planar::{Planar, PlanarNet, check, check_net};
 pub use sign::Sign;

@@ -6,7 +6,8 @@ ghost use Rattle.std.specs.List.{All, range_with_len};
 ghost use Rattle.inertia_cert.specs.SymmetricMatrices.{entry, AllFit};
 ghost use Rattle.planar_check.specs.declared.sign.Signed.{Signed};
 ghost use Rattle.planar_check.specs.Components.{least_labels};
-ghost use Rattle.planar_check.specs.Framings.{entry_from, linking_entry, sign_value, AreSignSums, IsWithin};
+ghost use Rattle.planar_check.specs.Framings.{linking_entry};
+ghost use Rattle.planar_check.specs.Tables.{entry_from, sign_value, AreSignSums, IsWithin};
 
 use crate::framed::Framed;
 use crate::sign::{Sign, Signed};

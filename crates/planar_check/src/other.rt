@@ -1,10 +1,9 @@
-//! Across each edge: the other place at which a label stands.
+//! Both places of a label: the first one, and across the edge the other.
 
 ghost use Rattle.std.specs.Prelude.{◌≡◌, ◌==◌, ◌<◌, Some, length, slice_index, slice_set, unwrap_or, if◌then◌else◌, ℕ, IfOk};
 ghost use Rattle.std.specs.BTreeMap.{get};
 ghost use Rattle.std.specs.Ordering.{nat_cmp};
-ghost use Rattle.planar_check.specs.Places.{other_places};
-ghost use Rattle.planar_check.specs.Signs.{first_place};
+ghost use Rattle.planar_check.specs.Places.{first_place, other_places};
 
 use std::alloc::{AllocError, Global};
 use std::collections::BTreeMap;
@@ -21,18 +20,13 @@ fn first_met(
     Ok(*firsts.entry(label)?.or_insert(place))
 }
 
-/// The first place of each label.
-pub(crate) fn first_places(
-    alloc: Global,
-    labels: &[u32],
-) -> Result<BTreeMap<u32, usize>, AllocError>
-    ensures { IfOk result (λ firsts. (label : ℕ) → unwrap_or (get nat_cmp firsts label) 0 ≡ first_place labels.now label) }
-{
-    let mut firsts = BTreeMap::new(alloc);
-    for (place, label) in labels.iter().enumerate() {
-        first_met(&mut firsts, *label, place)?;
-    }
-    Ok(firsts)
+/// Both places of each label, as far as it has them.
+#[derive(Drop)]
+pub(crate) struct LabelPlaces {
+    /// The first place of each label that stands at one.
+    pub firsts: BTreeMap<u32, usize>,
+    /// For each place the other place of its label: the first other one, or itself where there is none.
+    pub others: Vec<usize>,
 }
 
 /// Gives the first place of a label this one as its other place, where it had none.
@@ -45,9 +39,10 @@ fn give_other(others: &mut [usize], first: usize, place: usize)
     }
 }
 
-/// For each place the other place of its label: the first other one, or itself where there is none.
-pub(crate) fn other_places(alloc: Global, labels: &[u32]) -> Result<Vec<usize>, AllocError>
-    ensures { IfOk result (λ others. others.items ≡ other_places labels.now) }
+/// Both places of each of the labels, which stand at the places in this order.
+pub(crate) fn label_places(alloc: Global, labels: &[u32]) -> Result<LabelPlaces, AllocError>
+    ensures firsts { IfOk result (λ both. (label : ℕ) → get nat_cmp both.firsts label ≡ first_place labels.now label) }
+    ensures others { IfOk result (λ both. both.others.items ≡ other_places labels.now) }
 {
     let mut firsts = BTreeMap::new(alloc);
     let mut others = Vec::new(alloc);
@@ -56,5 +51,5 @@ pub(crate) fn other_places(alloc: Global, labels: &[u32]) -> Result<Vec<usize>, 
         others.push(first)?;
         give_other(&mut others, first, place);
     }
-    Ok(others)
+    Ok(LabelPlaces { firsts, others })
 }

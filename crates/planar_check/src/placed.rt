@@ -2,11 +2,14 @@
 
 ghost use Rattle.std.specs.Prelude.{◌≡◌, ◌+◌, ◌*◌, ◌^◌, ◌<◌, ◌≤◌, ◌++◌, List, ℕ, length, map, IfOk, OnOk, vec_len};
 ghost use Rattle.std.specs.List.{range_with_len};
-ghost use Rattle.planar_check.specs.Places.{item_slots, net_item_slots, crossings, turned, ArePlaces};
+ghost use Rattle.planar_check.specs.Places.{item_slots, net_item_slots, slot_lists, slot_after};
+ghost use Rattle.planar_check.specs.Tables.{AreLists, ArePlaces};
 
-use crate::other::other_places;
+use crate::cycles::least_in_faces;
+use crate::other::{LabelPlaces, label_places};
 use pd_reader::{Item, NetItem};
 use std::alloc::{AllocError, Global};
+use std::collections::BTreeMap;
 
 /// What has slots at which labels stand: a crossing has four, a vertex three, and a loop none.
 pub(crate) trait Placed {
@@ -41,30 +44,24 @@ impl Placed for NetItem {
     }
 }
 
-/// What is known of each place, in the order of the places.
+/// The labels at the slots, item by item, with where each slot stands.
 #[derive(Drop)]
-pub(crate) struct Places {
-    /// The label that stands at the place.
-    pub labels: Vec<u32>,
-    /// The next place counterclockwise at the same item.
-    pub turns: Vec<usize>,
-    /// The number of the item, among those with slots.
-    pub owners: Vec<usize>,
-    /// The other place at which the label of the place stands.
-    pub others: Vec<usize>,
-    /// How many items have slots.
-    pub crossings: usize,
+struct Slots {
+    labels: Vec<u32>,
+    after: Vec<usize>,
+    owners: Vec<usize>,
+    item_count: usize,
 }
 
 /// Puts the next places of an item's slots behind those of the items before it.
-fn push_turns(turns: &mut Vec<usize>, slots: usize) -> Result<(), AllocError>
-    requires few { vec_len turns.old + slots < 2 ^ 32 }
-    ensures items { OnOk result (turns.new.items ≡ turns.old.items ++ map (turned (vec_len turns.old) slots) (range_with_len 0 slots)) }
-    ensures more { OnOk result (vec_len turns.new ≡ vec_len turns.old + slots) }
+fn push_after(after: &mut Vec<usize>, slots: usize) -> Result<(), AllocError>
+    requires few { vec_len after.old + slots < 2 ^ 32 }
+    ensures items { OnOk result (after.new.items ≡ after.old.items ++ map (slot_after (vec_len after.old) slots) (range_with_len 0 slots)) }
+    ensures more { OnOk result (vec_len after.new ≡ vec_len after.old + slots) }
 {
-    let start = turns.len();
+    let start = after.len();
     for slot in 0..slots {
-        turns.push(start + (slot + 1) % slots)?;
+        after.push(start + (slot + 1) % slots)?;
     }
     Ok(())
 }
@@ -79,34 +76,80 @@ fn push_owner(owners: &mut Vec<usize>, number: usize, slots: &[u32]) -> Result<(
     Ok(())
 }
 
+impl Slots {
+    /// The slots of the items.
+    fn of<I: Placed>(alloc: Global, items: &[I]) -> Result<Slots, AllocError>
+        requires { length items.now ≤ 256 }
+        ensures slots { IfOk result (λ slots. AreLists (slot_lists I.slots_of items.now) slots.labels.items slots.after.items slots.owners.items) }
+        ensures count { IfOk result (λ slots. slots.item_count ≡ length (slot_lists I.slots_of items.now)) }
+        ensures few { IfOk result (λ slots. vec_len slots.labels ≤ 4 * length items.now) }
+        ensures few_items { IfOk result (λ slots. slots.item_count ≤ length items.now) }
+    {
+        let mut labels = Vec::new(alloc);
+        let mut after = Vec::new(alloc);
+        let mut owners = Vec::new(alloc);
+        let mut item_count = 0;
+        for item in items {
+            let slots = item.slots();
+            if !slots.is_empty() {
+                push_after(&mut after, slots.len())?;
+                push_owner(&mut owners, item_count, slots)?;
+                labels.extend_from_slice(slots)?;
+                item_count += 1;
+            }
+        }
+        Ok(Slots {
+            labels,
+            after,
+            owners,
+            item_count,
+        })
+    }
+}
+
+/// What is known of each place, in the order of the places.
+#[derive(Drop, Debug)]
+pub(crate) struct Places {
+    /// The label that stands at the place.
+    pub labels: Vec<u32>,
+    /// The next place counterclockwise at the same item.
+    pub after: Vec<usize>,
+    /// The number of the item, among those with slots.
+    pub owners: Vec<usize>,
+    /// The other place at which the label of the place stands.
+    pub others: Vec<usize>,
+    /// The least place of the face in which the place lies.
+    pub faces: Vec<usize>,
+    /// The first place of each label that stands at one.
+    pub firsts: BTreeMap<u32, usize>,
+    /// How many items have slots.
+    pub item_count: usize,
+}
+
 impl Places {
     /// The places of the items.
     pub fn of<I: Placed>(alloc: Global, items: &[I]) -> Result<Places, AllocError>
         requires { length items.now ≤ 256 }
-        ensures places { IfOk result (ArePlaces (crossings I.slots_of items.now)) }
+        ensures places { IfOk result (ArePlaces (slot_lists I.slots_of items.now)) }
         ensures few { IfOk result (λ places. vec_len places.labels ≤ 4 * length items.now) }
-        ensures few_crossings { IfOk result (λ places. places.crossings ≤ length items.now) }
+        ensures few_items { IfOk result (λ places. places.item_count ≤ length items.now) }
     {
-        let mut labels = Vec::new(alloc);
-        let mut turns = Vec::new(alloc);
-        let mut owners = Vec::new(alloc);
-        let mut crossings = 0;
-        for item in items {
-            let slots = item.slots();
-            if !slots.is_empty() {
-                push_turns(&mut turns, slots.len())?;
-                push_owner(&mut owners, crossings, slots)?;
-                labels.extend_from_slice(slots)?;
-                crossings += 1;
-            }
-        }
-        let others = other_places(alloc, &labels)?;
+        let Slots {
+            labels,
+            after,
+            owners,
+            item_count,
+        } = Slots::of(alloc, items)?;
+        let LabelPlaces { firsts, others } = label_places(alloc, &labels)?;
+        let faces = least_in_faces(alloc, &after, &others)?;
         Ok(Places {
             labels,
-            turns,
+            after,
             owners,
             others,
-            crossings,
+            faces,
+            firsts,
+            item_count,
         })
     }
 }

@@ -64,6 +64,34 @@ const FACES: [(&[u8], &[&[u32]]); 3] = [
     (b"PD[Loop[1]]", &[]),
 ];
 
+/// Of each place of the trefoil the label, the other place, the least place of its face, and whether the walk enters
+/// there.
+const TREFOIL_PLACES: [(u32, u32, u32, bool); 12] = [
+    (1, 7, 0, true),
+    (4, 6, 1, true),
+    (2, 9, 2, false),
+    (5, 8, 3, false),
+    (3, 11, 0, true),
+    (6, 10, 5, true),
+    (4, 1, 2, false),
+    (1, 0, 1, false),
+    (5, 3, 0, true),
+    (2, 2, 3, true),
+    (6, 5, 2, false),
+    (3, 4, 5, false),
+];
+
+/// The first places of the trefoil's labels, and of one that it does not have.
+const TREFOIL_FIRSTS: [(u32, Option<u32>); 7] = [
+    (1, Some(0)),
+    (2, Some(2)),
+    (3, Some(4)),
+    (4, Some(1)),
+    (5, Some(3)),
+    (6, Some(5)),
+    (7, None),
+];
+
 /// Text; of each component the least label and the writhe; and the linking numbers of the second
 /// component with the first, of the third with the first and the second, and so on.
 const COMPONENTS: [(&[u8], &[u32], &[i64], &[i64]); 10] = [
@@ -192,6 +220,9 @@ fn components(rt: HostRuntime) -> Result<(), Fail> {
             for other in 0..before {
                 let linking = planar.linking(before + 1, other + 1);
                 assert_eq!(rt; pairs.next().copied(), Some(linking));
+                // In a planar diagram the sum of signs is even.
+                let sum = planar.sign_sum(before + 1, other + 1);
+                assert_eq!(rt; (sum / 2, sum % 2), (linking, 0));
             }
         }
     }
@@ -202,6 +233,28 @@ fn components(rt: HostRuntime) -> Result<(), Fail> {
     for (label, component) in HOPF {
         assert_eq!(rt; hopf.component_of(label), component);
     }
+    Ok(())
+}
+
+#[test]
+fn places(rt: HostRuntime) -> Result<(), Fail> {
+    let trefoil = check(rt.alloc(), read_pd(rt.alloc(), TREFOIL)?)?;
+    assert_eq!(rt; trefoil.places(), 12);
+    let mut rows = TREFOIL_PLACES.iter();
+    for place in 0..trefoil.places() {
+        let row = (
+            trefoil.label_at(place),
+            trefoil.other_place(place),
+            trefoil.face_of(place),
+            trefoil.enters(place),
+        );
+        assert_eq!(rt; rows.next().copied(), Some(row));
+    }
+    for (label, first) in TREFOIL_FIRSTS {
+        assert_eq!(rt; trefoil.first_place(label), first);
+    }
+    let loops = check(rt.alloc(), read_pd(rt.alloc(), b"PD[Loop[7]]")?)?;
+    assert_eq!(rt; (loops.places(), loops.first_place(7)), (0, None));
     Ok(())
 }
 
@@ -234,7 +287,7 @@ fn worked_rows(rt: HostRuntime) -> Result<(), Fail> {
         let found = faces(rt.alloc(), &diagram)?;
         assert_eq!(rt; found.len(), wanted.len());
         for (face, places) in found.iter().zip(wanted) {
-            assert_eq!(rt; face.places(), *places);
+            assert_eq!(rt; face.places.as_slice(), *places);
         }
     }
     Ok(())

@@ -7,7 +7,7 @@ use Rattle.graph_parts.specs.Renaming.{renamed}
 use Rattle.pd_reader.specs.declared.item.Item.{Item}
 use Rattle.pd_reader.specs.Items.{item_labels}
 use Rattle.pd_reader.specs.Diagrams.{labels}
-use Rattle.planar_check.specs.Components.{distinct, rank, least_of, strand_edges}
+use Rattle.planar_check.specs.Components.{distinct, rank, component_least, strand_edges}
 use Rattle.planar_check.proofs.ComponentLists.{distinct_sorted, strands_among, ranks_inside, leasts_are}
 use Rattle.planar_check.proofs.component.leasts_of.Goals as goal
 
@@ -46,5 +46,5 @@ returns c =
     let xs = c.args.items.now in
     let passed = ranked xs c.args.names.now _ _ c.requires.names c.deref.ensures.value c.in_ok-edges.ensures in
     let are = ranks_are xs c.args.names.now _ _ _ c.requires.names passed c.deref-2.ensures.value c.in_ok-ranks.ensures.least in
-    let P : List ℕ → Type 0 = λ names. map (slice_index names) c.deref-2.result.now ≡ map (least_of xs) names in
+    let P : List ℕ → Type 0 = λ names. map (slice_index names) c.deref-2.result.now ≡ map (component_least xs) names in
     c.in_ok-leasts.ensures ∙ subst P (sym c.requires.names) (leasts_are xs c.requires.diagram.sizes c.deref-2.result.now are)

@@ -1,7 +1,7 @@
 use Rattle.std.proofs.Common.{ℤ, pos, ◌*◌, ◌-◌, ◌+◌, ◌<◌, ◌^◌, ◌++◌, ◌∷◌, [], List, subst, sym, get_or, unsigned_abs}
-use Rattle.planar_check.specs.Framings.{AreSignSums}
 use Rattle.planar_check.proofs.SignSums.{first_small, second_small, twice_set_are}
 use Rattle.planar_check.proofs.linking.add_sign.Goals as goal
+use Rattle.planar_check.specs.Tables.{AreSignSums}
 
 pub add_at-requires-clause-small : goal.add_at-requires-clause-small
 add_at-requires-clause-small c =

@@ -1,10 +1,10 @@
 use Rattle.std.proofs.Common.{◌≡◌, ◌∙◌, ap, ◌++◌, ◌∷◌, [], ℤ, FitsSigned, to_z, of_z, rules}
 use Rattle.std.specs.Int.{w64, w128}
 use Rattle.std.proofs.lemmas.Int.{to_z-of_z}
-use Rattle.planar_check.specs.Framings.{entry_from}
 use Rattle.planar_check.proofs.Others.{mapped_push}
 use Rattle.planar_check.proofs.LinkingEntries.{fits_more, widened}
 use Rattle.planar_check.proofs.linking.entries.Goals as goal
+use Rattle.planar_check.specs.Tables.{entry_from}
 
 pub loop-place-preserved : goal.loop-place-preserved
 loop-place-preserved c =

@@ -1,8 +1,8 @@
 use Rattle.std.proofs.Common.{◌≡◌, map}
 use Rattle.std.specs.List.{range_with_len}
 use Rattle.inertia_cert.specs.SymmetricMatrices.{AllFit}
-use Rattle.planar_check.specs.Framings.{entry_from}
 use Rattle.planar_check.proofs.linking.entries.Given as goal
+use Rattle.planar_check.specs.Tables.{entry_from}
 
 -- the entries at the places so far
 abbrev pub invariant-loop-place : goal.invariant-loop-place

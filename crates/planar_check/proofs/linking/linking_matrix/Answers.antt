@@ -5,9 +5,10 @@ use Rattle.inertia_cert.specs.SymmetricMatrices.{entry, square, IsEqualAcross}
 use Rattle.planar_check.specs.declared.sign.Signed.{Signed}
 use Rattle.planar_check.specs.Components.{least_labels}
 use Rattle.planar_check.specs.Signs.{signed_crossings}
-use Rattle.planar_check.specs.Framings.{FramedDiagram, entry_from, AreSignSums, IsFramed}
+use Rattle.planar_check.specs.Framings.{FramedDiagram, IsFramed}
 use Rattle.planar_check.proofs.LinkingEntries.{entry_is, entries_long, equal_across}
 use Rattle.planar_check.proofs.linking.linking_matrix.Goals as goal
+use Rattle.planar_check.specs.Tables.{entry_from, AreSignSums}
 
 -- the sums are those of the framed diagram's crossings
 sums_are : (framed : FramedDiagram) (items : List Item) (crossings : List Signed) (n : ℕ) (sums : List ℤ) → items ≡ framed.items → crossings ≡ signed_crossings items → AreSignSums n crossings sums →

@@ -2,10 +2,10 @@ use Rattle.std.proofs.Common.{ℤ, [], ◌∷◌, ◌++◌, List, ap, subst, sym
 use Rattle.std.proofs.lemmas.List.{take_more, with_items_is}
 use Rattle.planar_check.specs.declared.sign.Sign.TheVariants.{Plus}
 use Rattle.planar_check.specs.declared.sign.Signed.{Signed}
-use Rattle.planar_check.specs.Framings.{AreSignSums}
 use Rattle.planar_check.proofs.SignSums.{itself_skipped}
 use Rattle.planar_check.proofs.linking.sign_sums.Goals as goal
 use Rattle.planar_check.proofs.linking.sign_sums.Goals.{then-crossing, else-crossing}
+use Rattle.planar_check.specs.Tables.{AreSignSums}
 
 pub loop-crossing-preserved : goal.loop-crossing-preserved
 loop-crossing-preserved c =

@@ -1,57 +1,54 @@
-use Rattle.std.proofs.Common.{◌≡◌, ℕ, ◌+◌, ◌<◌, List, [], ◌∷◌, ◌++◌, length, map, take, sym, ap, ◌∙◌, arith, length-append, vec_len}
-use Rattle.std.proofs.lemmas.List.{take_more}
-use Rattle.planar_check.specs.Places.{crossings, labels_by_place, turned_places, owners}
-use Rattle.planar_check.proofs.Pushes.{crossings-push, crossings-skip, labels-push, turns-push, turns_at, owners-push, some_slot, no_slot}
+use Rattle.std.proofs.Common.{ℕ, List, ap, ◌∙◌}
+use Rattle.planar_check.specs.Places.{slot_lists, first_place, other_places}
+use Rattle.planar_check.proofs.PlaceLists.{AreRead, after_long, after_in_range, others_in_range}
+use Rattle.planar_check.proofs.FaceLists.{faces_are}
 use Rattle.planar_check.proofs.placed.Places.of.Goals as goal
-use Rattle.planar_check.proofs.placed.Places.of.Goals.{then-not-is_empty+in_ok-push_turns+in_ok-push_owner+in_ok-extend_from_slice, else-not-is_empty}
 
-pub push_turns-requires : goal.push_turns-requires
-push_turns-requires g c = record { few = omega (arith, c.loop-item.invariant.same, c.loop-item.invariant.few, c.slots-slots.ensures.few, c.requires) }
+pub least_in_faces-requires-clause-same_length : goal.least_in_faces-requires-clause-same_length
+least_in_faces-requires-clause-same_length g c =
+    let cs = slot_lists g.I.Placed.slots_of c.args.items.now in
+    let slots = c.in_ok-labels.ensures.slots in
+    let are : AreRead cs c.deref-2.result.now c.in_ok-labels.field-0.owners.items c.deref-3.result.now = record {
+      after_are = c.deref-2.ensures.value ∙ slots.after_are;
+      owners_are = slots.owners_are;
+      others_are = c.deref-3.ensures.value ∙ (c.in_ok-firsts.ensures.others ∙ ap other_places (c.deref.ensures.value ∙ slots.labels_are));
+    } in
+    after_long cs _ _ _ are
 
-pub loop-item-preserved : goal.loop-item-preserved
-loop-item-preserved g c =
-    let slots_of = g.I.Placed.slots_of in
-    let front = take c.loop-item.item-index c.args.items.now in
-    let cs = crossings slots_of front in
-    let item = c.item-item.result in
-    let slots = c.slots-slots.result.now in
-    let is_slots = c.slots-slots.ensures.slots in
-    let before = c.loop-item.invariant in
-    let more : take (c.loop-item.item-index + 1) c.args.items.now ≡ front ++ item ∷ [] = take_more _ _ item c.loop-item-test.true ∙ ap (λ x. front ++ x ∷ []) (sym c.item-item.is) in
-    elim c.if-not-is_empty.branch [
-      | then-not-is_empty+in_ok-push_turns+in_ok-push_owner+in_ok-extend_from_slice w ↦ (
-          let here = some_slot slots _ c.is_empty.ensures w.if-not-is_empty.true in
-          let some : 0 < length (slots_of item) = omega (arith, here, ap length is_slots) in
-          let next : crossings slots_of (take (c.loop-item.item-index + 1) c.args.items.now) ≡ cs ++ slots ∷ [] =
-          ap (crossings slots_of) more ∙ (crossings-push slots_of front item some ∙ ap (λ (s : List ℕ). cs ++ s ∷ []) (sym is_slots)) in
-          let start : vec_len c.loop-item.turns ≡ 0 + length (labels_by_place cs) = omega (arith, before.same, ap length before.labels) in
-          let number : c.loop-item.crossings ≡ 0 + length cs = omega (arith, before.crossings) in
-          record {
-            labels = ap (λ v. v.items) w.labels-is ∙ (w.in_ok-extend_from_slice.ensures.items
-                ∙ (ap (λ (ls : List ℕ). ls ++ slots) before.labels ∙ sym (ap labels_by_place next ∙ labels-push cs slots)));
-            turns = ap (λ v. v.items) w.turns-is ∙ (w.in_ok-push_turns.ensures.items
-                ∙ (ap (λ (ts : List ℕ). ts ++ turns_at (vec_len c.loop-item.turns) (length slots)) before.turns
-                ∙ (ap (λ s. turned_places 0 cs ++ turns_at s (length slots)) start ∙ sym (ap (turned_places 0) next ∙ turns-push 0 cs slots))));
-            owners = ap (λ v. v.items) w.owners-is ∙ (w.in_ok-push_owner.ensures.items
-                ∙ (ap (λ (ns : List ℕ). ns ++ map (λ _. c.loop-item.crossings) slots) before.owners
-                ∙ (ap (λ (n : ℕ). owners 0 cs ++ map (λ _. n) slots) number ∙ sym (ap (owners 0) next ∙ owners-push 0 cs slots))));
-            crossings = omega (arith, w.crossings-is, before.crossings, ap length next, length-append cs (slots ∷ []));
-            same = omega (arith, ap vec_len w.labels-is, ap vec_len w.turns-is, w.in_ok-push_turns.ensures.more, w.in_ok-extend_from_slice.ensures.len, before.same);
-            few = omega (arith, ap vec_len w.labels-is, w.in_ok-extend_from_slice.ensures.len, c.slots-slots.ensures.few, before.few);
-            few_crossings = omega (arith, w.crossings-is, before.few_crossings);
-          })
-      | else-not-is_empty w ↦ (
-          let here = no_slot slots _ c.is_empty.ensures w.if-not-is_empty.false in
-          let none : length (slots_of item) ≡ 0 = omega (arith, here, ap length is_slots) in
-          let next : crossings slots_of (take (c.loop-item.item-index + 1) c.args.items.now) ≡ cs =
-          ap (crossings slots_of) more ∙ crossings-skip slots_of front item none in
-          record {
-            labels = ap (λ v. v.items) w.labels-is ∙ (before.labels ∙ ap labels_by_place (sym next));
-            turns = ap (λ v. v.items) w.turns-is ∙ (before.turns ∙ ap (turned_places 0) (sym next));
-            owners = ap (λ v. v.items) w.owners-is ∙ (before.owners ∙ ap (owners 0) (sym next));
-            crossings = w.crossings-is ∙ (before.crossings ∙ ap length (sym next));
-            same = omega (arith, ap vec_len w.labels-is, ap vec_len w.turns-is, before.same);
-            few = omega (arith, ap vec_len w.labels-is, before.few);
-            few_crossings = omega (arith, w.crossings-is, before.few_crossings);
-          })
-    ]
+pub least_in_faces-requires-clause-after_in_range : goal.least_in_faces-requires-clause-after_in_range
+least_in_faces-requires-clause-after_in_range g c =
+    let cs = slot_lists g.I.Placed.slots_of c.args.items.now in
+    let slots = c.in_ok-labels.ensures.slots in
+    let are : AreRead cs c.deref-2.result.now c.in_ok-labels.field-0.owners.items c.deref-3.result.now = record {
+      after_are = c.deref-2.ensures.value ∙ slots.after_are;
+      owners_are = slots.owners_are;
+      others_are = c.deref-3.ensures.value ∙ (c.in_ok-firsts.ensures.others ∙ ap other_places (c.deref.ensures.value ∙ slots.labels_are));
+    } in
+    after_in_range cs _ _ _ are
+
+pub least_in_faces-requires-clause-others_in_range : goal.least_in_faces-requires-clause-others_in_range
+least_in_faces-requires-clause-others_in_range g c =
+    let cs = slot_lists g.I.Placed.slots_of c.args.items.now in
+    let slots = c.in_ok-labels.ensures.slots in
+    let are : AreRead cs c.deref-2.result.now c.in_ok-labels.field-0.owners.items c.deref-3.result.now = record {
+      after_are = c.deref-2.ensures.value ∙ slots.after_are;
+      owners_are = slots.owners_are;
+      others_are = c.deref-3.ensures.value ∙ (c.in_ok-firsts.ensures.others ∙ ap other_places (c.deref.ensures.value ∙ slots.labels_are));
+    } in
+    others_in_range cs _ _ _ are
+
+pub returns-clause-places : goal.returns-clause-places
+returns-clause-places g c =
+    let cs = slot_lists g.I.Placed.slots_of c.args.items.now in
+    let slots = c.in_ok-labels.ensures.slots in
+    let read = c.deref.ensures.value ∙ slots.labels_are in
+    let others = c.in_ok-firsts.ensures.others ∙ ap other_places read in
+    record {
+      labels_are = slots.labels_are;
+      after_are = slots.after_are;
+      owners_are = slots.owners_are;
+      others_are = others;
+      firsts_are = λ label. c.in_ok-firsts.ensures.firsts label ∙ ap (λ (ls : List ℕ). first_place ls label) read;
+      faces_are = faces_are cs c.deref-2.result.now c.deref-3.result.now c.in_ok-faces.faces.items (c.deref-2.ensures.value ∙ slots.after_are) (c.deref-3.ensures.value ∙ others) c.in_ok-faces.ensures;
+      count_is = c.in_ok-labels.ensures.count;
+    }
