@@ -1,5 +1,6 @@
 -- An item is one of a few calls: of X or Loop in a diagram, of X, Y or Loop in a net.
-use Rattle.std.proofs.Common.{inl, inr, ◌≡◌, ℕ, cond, codes, List, [], ◌∷◌, length, get_or, refl, ap, arith, decimal}
+use Rattle.std.proofs.Common.{inl, inr, ◌≡◌, ℕ, cond, codes, List, [], ◌∷◌, length, get_or, refl, ap, arith}
+use Rattle.text_shapes.specs.Tokens.{number_tokens}
 use Rattle.text_shapes.specs.Shapes.{AreOf, call}
 use Rattle.text_shapes.specs.Reach.{is_word_byte, IsWord}
 use Rattle.text_shapes.proofs.Choice.{AreCalls, Makes, OneOf, same_bytes}
@@ -58,14 +59,14 @@ slots_of h = cond (same_bytes h (codes "X")) (0 ∷ 0 ∷ 0 ∷ 0 ∷ []) (0 ∷
 abbrev pub item_of : List ℕ → List ℕ → Item
 item_of h ns = cond (same_bytes h (codes "X")) (items.X ns) (items.Loop (get_or ns 0 0))
 
-pub item_calls : AreCalls decimal IsOfKind IsTextItem item_tokens slots_of item_of head numbers
+pub item_calls : AreCalls number_tokens IsOfKind IsTextItem item_tokens slots_of item_of head numbers
 item_calls = record { word = word; tokens_are = tokens_are; of_kinds = of_kinds; back_is = back_is }
   where
     word : (v : Item) → IsWord (head v)
     word (items.X slots) = x_word
     word (items.Loop label) = loop_word
 
-    tokens_are : (v : Item) → item_tokens v ≡ call decimal (head v) (numbers v)
+    tokens_are : (v : Item) → item_tokens v ≡ call number_tokens (head v) (numbers v)
     tokens_are (items.X slots) = refl
     tokens_are (items.Loop label) = refl
 
@@ -77,7 +78,7 @@ item_calls = record { word = word; tokens_are = tokens_are; of_kinds = of_kinds;
     back_is (items.X slots) = refl
     back_is (items.Loop label) = refl
 
-pub makes_x : Makes decimal IsOfKind IsTextItem item_tokens slots_of item_of head (codes "X")
+pub makes_x : Makes number_tokens IsOfKind IsTextItem item_tokens slots_of item_of head (codes "X")
 makes_x = record {
   head_is = λ ns h. refl;
   fits_back = λ ns h. numbers_of_kinds (0 ∷ 0 ∷ 0 ∷ 0 ∷ []) ns h;
@@ -87,10 +88,10 @@ makes_x = record {
 loop_fits : (ns : List ℕ) → AreOf IsOfKind (0 ∷ []) ns → AreNumbers 1 (get_or ns 0 0 ∷ [])
 loop_fits ns h = let k = numbers_of_kinds (0 ∷ []) ns h in rw (listed_one ns k) k
 
-loop_tokens : (ns : List ℕ) → AreOf IsOfKind (0 ∷ []) ns → call decimal (codes "Loop") (get_or ns 0 0 ∷ []) ≡ call decimal (codes "Loop") ns
-loop_tokens ns h = ap (call decimal (codes "Loop")) (listed_one ns (numbers_of_kinds (0 ∷ []) ns h))
+loop_tokens : (ns : List ℕ) → AreOf IsOfKind (0 ∷ []) ns → call number_tokens (codes "Loop") (get_or ns 0 0 ∷ []) ≡ call number_tokens (codes "Loop") ns
+loop_tokens ns h = ap (call number_tokens (codes "Loop")) (listed_one ns (numbers_of_kinds (0 ∷ []) ns h))
 
-pub makes_loop : Makes decimal IsOfKind IsTextItem item_tokens slots_of item_of head (codes "Loop")
+pub makes_loop : Makes number_tokens IsOfKind IsTextItem item_tokens slots_of item_of head (codes "Loop")
 makes_loop = record { head_is = λ ns h. refl; fits_back = loop_fits; tokens_back = loop_tokens }
 
 abbrev pub heads : List (List ℕ)
@@ -118,7 +119,7 @@ net_slots_of h = cond (same_bytes h (codes "X")) (0 ∷ 0 ∷ 0 ∷ 0 ∷ []) (c
 abbrev pub net_item_of : List ℕ → List ℕ → NetItem
 net_item_of h ns = cond (same_bytes h (codes "X")) (net_items.X ns) (cond (same_bytes h (codes "Y")) (net_items.Y ns) (net_items.Loop (get_or ns 0 0)))
 
-pub net_item_calls : AreCalls decimal IsOfKind IsTextNetItem net_item_tokens net_slots_of net_item_of net_head net_numbers
+pub net_item_calls : AreCalls number_tokens IsOfKind IsTextNetItem net_item_tokens net_slots_of net_item_of net_head net_numbers
 net_item_calls = record { word = word; tokens_are = tokens_are; of_kinds = of_kinds; back_is = back_is }
   where
     word : (v : NetItem) → IsWord (net_head v)
@@ -126,7 +127,7 @@ net_item_calls = record { word = word; tokens_are = tokens_are; of_kinds = of_ki
     word (net_items.Y edges) = y_word
     word (net_items.Loop label) = loop_word
 
-    tokens_are : (v : NetItem) → net_item_tokens v ≡ call decimal (net_head v) (net_numbers v)
+    tokens_are : (v : NetItem) → net_item_tokens v ≡ call number_tokens (net_head v) (net_numbers v)
     tokens_are (net_items.X slots) = refl
     tokens_are (net_items.Y edges) = refl
     tokens_are (net_items.Loop label) = refl
@@ -141,21 +142,21 @@ net_item_calls = record { word = word; tokens_are = tokens_are; of_kinds = of_ki
     back_is (net_items.Y edges) = refl
     back_is (net_items.Loop label) = refl
 
-pub net_makes_x : Makes decimal IsOfKind IsTextNetItem net_item_tokens net_slots_of net_item_of net_head (codes "X")
+pub net_makes_x : Makes number_tokens IsOfKind IsTextNetItem net_item_tokens net_slots_of net_item_of net_head (codes "X")
 net_makes_x = record {
   head_is = λ ns h. refl;
   fits_back = λ ns h. numbers_of_kinds (0 ∷ 0 ∷ 0 ∷ 0 ∷ []) ns h;
   tokens_back = λ ns h. refl;
 }
 
-pub net_makes_y : Makes decimal IsOfKind IsTextNetItem net_item_tokens net_slots_of net_item_of net_head (codes "Y")
+pub net_makes_y : Makes number_tokens IsOfKind IsTextNetItem net_item_tokens net_slots_of net_item_of net_head (codes "Y")
 net_makes_y = record {
   head_is = λ ns h. refl;
   fits_back = λ ns h. numbers_of_kinds (0 ∷ 0 ∷ 0 ∷ []) ns h;
   tokens_back = λ ns h. refl;
 }
 
-pub net_makes_loop : Makes decimal IsOfKind IsTextNetItem net_item_tokens net_slots_of net_item_of net_head (codes "Loop")
+pub net_makes_loop : Makes number_tokens IsOfKind IsTextNetItem net_item_tokens net_slots_of net_item_of net_head (codes "Loop")
 net_makes_loop = record { head_is = λ ns h. refl; fits_back = loop_fits; tokens_back = loop_tokens }
 
 abbrev pub net_heads : List (List ℕ)

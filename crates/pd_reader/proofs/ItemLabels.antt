@@ -11,10 +11,6 @@ pub labels-push : {I : Type 0} (labels_of : I → List ℕ) (xs : List I) (x : I
 labels-push labels_of [] x = append-nil (labels_of x)
 labels-push labels_of (y ∷ ys) x = ap (λ (ls : List ℕ). labels_of y ++ ls) (labels-push labels_of ys x) ∙ sym (append_assoc (labels_of y) (labels labels_of ys) (labels_of x))
 
-pub All-push : {I : Type 0} (P : I → Type 0) (xs : List I) (x : I) → AllByRecursion P xs → P x → AllByRecursion P (xs ++ x ∷ [])
-All-push P [] x h p = (p, tt)
-All-push P (y ∷ ys) x h p = (h.0, All-push P ys x h.1 p)
-
 module _ {I : Type 0} (labels_of : I → List ℕ) where
   no_label : (items : List I) (least : Option ℕ) → option_map (λ label. faults.Label label (times label (labels labels_of items))) least ≡ None → least ≡ None
   no_label items None e = refl

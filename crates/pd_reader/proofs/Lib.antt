@@ -6,6 +6,7 @@ pub mod StopLemmas
 pub mod Readings
 mod Written
 mod ReadsBack
-pub mod UniqueItems
+pub mod OneReading
+pub mod SignedItems
 mod TorusLabels
 mod Examples

@@ -1,8 +1,8 @@
 -- Each text of a diagram or a net is of tokens, and its labels are labels of a diagram.
 use Rattle.std.proofs.Common.{ℕ, codes, List, [], ◌∷◌, ◌++◌, decimal, refl, arith}
 use Rattle.std.specs.List.{AllByRecursion}
-use Rattle.text_shapes.specs.Tokens.{is_space, IsNumber}
-use Rattle.text_shapes.specs.Reach.{IsToken, AreTokens}
+use Rattle.text_shapes.specs.Tokens.{is_space, IsNumber, number_tokens}
+use Rattle.text_shapes.specs.Reach.{AreTokens}
 use Rattle.text_shapes.proofs.Words.{IsWord-token}
 use Rattle.text_shapes.proofs.Numbers.{decimal-word}
 use Rattle.text_shapes.proofs.TokenLists.{listed-tokens, arguments-tokens}
@@ -14,13 +14,13 @@ use Rattle.pd_reader.specs.Items.{item_labels, net_item_labels}
 use Rattle.pd_reader.specs.Diagrams.{labels, IsLabel}
 use Rattle.pd_reader.specs.Texts.{IsTextItem, item_tokens, pd_tokens, IsTextNetItem, net_item_tokens, net_tokens}
 
-numbers_are_tokens : (n : ℕ) → IsNumber n → IsToken (decimal n)
-numbers_are_tokens n h = IsWord-token (decimal n) (decimal-word n h)
+pub numbers_are_tokens : (n : ℕ) → IsNumber n → AreTokens (number_tokens n)
+numbers_are_tokens n h = (IsWord-token (decimal n) (decimal-word n h), tt)
 
 item_are_tokens : (v : Item) → IsTextItem v → AreTokens (item_tokens v)
 unfolding is_space
-item_are_tokens (items.X slots) h = (refl, arguments-tokens decimal IsNumber numbers_are_tokens (codes "[") slots refl h.are_numbers)
-item_are_tokens (items.Loop label) h = (refl, arguments-tokens decimal IsNumber numbers_are_tokens (codes "[") (label ∷ []) refl h.are_numbers)
+item_are_tokens (items.X slots) h = (refl, arguments-tokens number_tokens IsNumber numbers_are_tokens (codes "[") slots refl h.are_numbers)
+item_are_tokens (items.Loop label) h = (refl, arguments-tokens number_tokens IsNumber numbers_are_tokens (codes "[") (label ∷ []) refl h.are_numbers)
 
 pub pd_are_tokens : (vs : List Item) → AllByRecursion IsTextItem vs → AreTokens (pd_tokens vs)
 unfolding is_space
@@ -28,9 +28,9 @@ pd_are_tokens vs h = listed-tokens IsTextItem item_tokens item_are_tokens (codes
 
 net_item_are_tokens : (v : NetItem) → IsTextNetItem v → AreTokens (net_item_tokens v)
 unfolding is_space
-net_item_are_tokens (net_items.X slots) h = (refl, arguments-tokens decimal IsNumber numbers_are_tokens (codes "[") slots refl h.are_numbers)
-net_item_are_tokens (net_items.Y edges) h = (refl, arguments-tokens decimal IsNumber numbers_are_tokens (codes "[") edges refl h.are_numbers)
-net_item_are_tokens (net_items.Loop label) h = (refl, arguments-tokens decimal IsNumber numbers_are_tokens (codes "[") (label ∷ []) refl h.are_numbers)
+net_item_are_tokens (net_items.X slots) h = (refl, arguments-tokens number_tokens IsNumber numbers_are_tokens (codes "[") slots refl h.are_numbers)
+net_item_are_tokens (net_items.Y edges) h = (refl, arguments-tokens number_tokens IsNumber numbers_are_tokens (codes "[") edges refl h.are_numbers)
+net_item_are_tokens (net_items.Loop label) h = (refl, arguments-tokens number_tokens IsNumber numbers_are_tokens (codes "[") (label ∷ []) refl h.are_numbers)
 
 pub net_are_tokens : (vs : List NetItem) → AllByRecursion IsTextNetItem vs → AreTokens (net_tokens vs)
 unfolding is_space

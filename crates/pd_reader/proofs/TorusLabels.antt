@@ -3,7 +3,7 @@
 -- The first k crossings leave four ends: 1 and 2, which close the braid, and 2k+1 and 2k+2, from which
 -- the next crossing goes on. With these four counted once more, each label up to 2k+2 stands twice
 -- (`front_counts`); the last crossing has just these four slots.
-use Rattle.std.proofs.Common.{inl, inr, ◌≡◌, ℕ, zero, suc, ◌+◌, ◌-◌, ◌*◌, ◌<◌, ◌≤◌, cond, eqb, List, [], ◌∷◌, ◌++◌, length, refl, ap, ◌∙◌, arith, length-append}
+use Rattle.std.proofs.Common.{inl, inr, ◌≡◌, ℕ, zero, suc, ◌+◌, ◌-◌, ◌*◌, ◌<◌, ◌≤◌, cond, eqb, List, [], ◌∷◌, length, refl, ap, ◌∙◌, arith, length-append}
 use Rattle.std.specs.List.{AllByRecursion}
 use Rattle.std.proofs.lemmas.Bool.{eq-eqb, ne_eqb, cases_eq, cases_lt}
 use Rattle.std.proofs.lemmas.List.Sums.{sum_by-append}
@@ -12,7 +12,8 @@ use Rattle.pd_reader.specs.declared.item.Item.TheVariants as items
 use Rattle.pd_reader.specs.Items.{item_labels, HasItsSlots}
 use Rattle.pd_reader.specs.Diagrams.{times, labels, IsLabel, IsDiagram}
 use Rattle.pd_reader.specs.Torus.{torus_crossing, torus_front, torus_items}
-use Rattle.pd_reader.proofs.ItemLabels.{labels-push, All-push}
+use Rattle.text_shapes.proofs.Elements.{All-append, All-push}
+use Rattle.pd_reader.proofs.ItemLabels.{labels-push}
 
 -- a label counts once at itself
 abbrev is_at : ℕ → ℕ → ℕ
@@ -98,22 +99,18 @@ wider : (a b : ℕ) (ls : List ℕ) → a ≤ b → AllByRecursion (UpTo a) ls �
 wider a b [] le h = tt
 wider a b (l ∷ ls) le h = ((h.0.0, omega (arith, h.0)), wider a b ls le h.1)
 
-all-append : (P : ℕ → Type 0) (xs ys : List ℕ) → AllByRecursion P xs → AllByRecursion P ys → AllByRecursion P (xs ++ ys)
-all-append P [] ys h k = k
-all-append P (x ∷ xs) ys h k = (h.0, all-append P xs ys h.1 k)
-
 front_labels : (k : ℕ) → AllByRecursion (UpTo (2 * k + 2)) (front k)
 front_labels zero = tt
 front_labels (suc k) =
     rw (labels-push item_labels (torus_front k) (torus_crossing (suc k)))
-    (all-append (UpTo (2 * suc k + 2)) (front k) (item_labels (torus_crossing (suc k))) (wider (2 * k + 2) (2 * suc k + 2) (front k) (omega arith) (front_labels k))
+    (All-append (UpTo (2 * suc k + 2)) (front k) (item_labels (torus_crossing (suc k))) (wider (2 * k + 2) (2 * suc k + 2) (front k) (omega arith) (front_labels k))
     ((omega arith, omega arith), ((omega arith, omega arith), ((omega arith, omega arith), ((omega arith, omega arith), tt)))))
 
 torus_labels : (n : ℕ) → 1 ≤ n → AllByRecursion (UpTo (2 * n)) (labels item_labels (torus_items n))
 torus_labels n least =
     let last : Item = items.X (2 * n ∷ 2 ∷ 1 ∷ (2 * n - 1) ∷ []) in
     rw (labels-push item_labels (torus_front (n - 1)) last)
-    (all-append (UpTo (2 * n)) (front (n - 1)) (item_labels last) (wider (2 * (n - 1) + 2) (2 * n) (front (n - 1)) (omega arith) (front_labels (n - 1)))
+    (All-append (UpTo (2 * n)) (front (n - 1)) (item_labels last) (wider (2 * (n - 1) + 2) (2 * n) (front (n - 1)) (omega arith) (front_labels (n - 1)))
     ((omega arith, omega arith), ((omega arith, omega arith), ((omega arith, omega arith), ((omega arith, omega arith), tt)))))
 
 front_sizes : (k : ℕ) → AllByRecursion HasItsSlots (torus_front k)

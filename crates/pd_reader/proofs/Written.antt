@@ -19,10 +19,10 @@ written_behind-push [] v = ap (λ (xs : List ℕ). 44 ∷ xs) (append-nil (conca
 written_behind-push (w ∷ vs) v =
     ap (λ (xs : List ℕ). 44 ∷ xs) (ap (λ (xs : List ℕ). concat (item_tokens w) ++ xs) (written_behind-push vs v) ∙ sym (append_assoc (concat (item_tokens w)) (written_behind vs) (44 ∷ concat (item_tokens v))))
 
-pub concat-behind : (vs : List Item) → concat (items_behind item_tokens vs) ≡ written_behind vs ++ 93 ∷ []
+pub concat-behind : (vs : List Item) → concat (items_behind 93 item_tokens vs) ≡ written_behind vs ++ 93 ∷ []
 concat-behind [] = refl
 concat-behind (v ∷ vs) =
-    ap (λ (xs : List ℕ). 44 ∷ xs) (concat-append (item_tokens v) (items_behind item_tokens vs) ∙ (ap (λ (xs : List ℕ). concat (item_tokens v) ++ xs) (concat-behind vs) ∙ sym (append_assoc (concat (item_tokens v)) (written_behind vs) (93 ∷ []))))
+    ap (λ (xs : List ℕ). 44 ∷ xs) (concat-append (item_tokens v) (items_behind 93 item_tokens vs) ∙ (ap (λ (xs : List ℕ). concat (item_tokens v) ++ xs) (concat-behind vs) ∙ sym (append_assoc (concat (item_tokens v)) (written_behind vs) (93 ∷ []))))
 
 -- one item more, behind a comma
 pub written_turn : (before text : List ℕ) (vs : List Item) (i : ℕ) → i < length vs → text ≡ before ++ written_behind (take i vs)
@@ -36,8 +36,8 @@ written_turn before text vs i lt e =
 
 -- the first item, and the others
 pub written_first : (vs : List Item) → 1 ≤ length vs
-    → concat (items_inside item_tokens vs) ≡ concat (item_tokens (get_or vs 0 (items.X []))) ++ concat (items_behind item_tokens (take (length vs - 1) (drop 1 vs)))
+    → concat (items_inside 93 item_tokens vs) ≡ concat (item_tokens (get_or vs 0 (items.X []))) ++ concat (items_behind 93 item_tokens (take (length vs - 1) (drop 1 vs)))
 written_first [] le = absurd (omega arith)
 written_first (v ∷ vs) le =
     let all : take (length (v ∷ vs) - 1) vs ≡ vs = take_all (length (v ∷ vs) - 1) vs (omega arith) in
-    concat-append (item_tokens v) (items_behind item_tokens vs) ∙ ap (λ (xs : List Item). concat (item_tokens v) ++ concat (items_behind item_tokens xs)) (sym all)
+    concat-append (item_tokens v) (items_behind 93 item_tokens vs) ∙ ap (λ (xs : List Item). concat (item_tokens v) ++ concat (items_behind 93 item_tokens xs)) (sym all)

@@ -1,8 +1,10 @@
 pub mod Items
 pub mod Diagrams
 pub mod Texts
+pub mod Signed
 pub mod Faults
 pub mod Stops
 pub mod Answers
+pub mod Refusals
 pub mod Torus
 pub mod Laws

@@ -6,22 +6,18 @@
 --     written items                 the canonical spelling of a diagram
 --
 -- "PD[Loop[1]]" is written (Loop 1 ∷ []), and " PD [ Loop[1] ]" is another text of these items.
-use Rattle.std.specs.Prelude.{◌≡◌, ℕ, List, [], ◌∷◌, length, codes, decimal}
+use Rattle.std.specs.Prelude.{◌≡◌, ℕ, List, [], ◌∷◌, length, codes}
 use Rattle.std.specs.List.{AllByRecursion, concat}
-use Rattle.std.proofs.Common.{lit<}
 use Rattle.pd_reader.specs.declared.item.Item.{Item}
 use Rattle.pd_reader.specs.declared.item.Item.TheVariants as items
 use Rattle.pd_reader.specs.declared.item.NetItem.{NetItem}
 use Rattle.pd_reader.specs.declared.item.NetItem.TheVariants as net_items
-use Rattle.text_shapes.specs.Tokens.{IsNumber}
+use Rattle.text_shapes.specs.Tokens.{IsNumber, number_tokens}
 use Rattle.text_shapes.specs.Shapes.{IsText, call, listed}
 
 -- the number is one of a text, whatever the slot
 abbrev pub IsOfKind : ℕ → ℕ → Type 0
 IsOfKind slot n = IsNumber n
-
-pub one_is_a_number : IsNumber 1
-one_is_a_number = record { low = lit< tt; high = lit< tt }
 
 -- so many numbers
 pub record AreNumbers (count : ℕ) (ns : List ℕ) : Type 0 where
@@ -30,8 +26,8 @@ pub record AreNumbers (count : ℕ) (ns : List ℕ) : Type 0 where
 
 -- the tokens of an item of a diagram
 abbrev pub item_tokens : Item → List (List ℕ)
-item_tokens (items.X slots) = call decimal (codes "X") slots
-item_tokens (items.Loop label) = call decimal (codes "Loop") (label ∷ [])
+item_tokens (items.X slots) = call number_tokens (codes "X") slots
+item_tokens (items.Loop label) = call number_tokens (codes "Loop") (label ∷ [])
 
 abbrev pub IsTextItem : Item → Type 0
 IsTextItem (items.X slots) = AreNumbers 4 slots
@@ -39,9 +35,9 @@ IsTextItem (items.Loop label) = AreNumbers 1 (label ∷ [])
 
 -- the tokens of an item of a net
 abbrev pub net_item_tokens : NetItem → List (List ℕ)
-net_item_tokens (net_items.X slots) = call decimal (codes "X") slots
-net_item_tokens (net_items.Y edges) = call decimal (codes "Y") edges
-net_item_tokens (net_items.Loop label) = call decimal (codes "Loop") (label ∷ [])
+net_item_tokens (net_items.X slots) = call number_tokens (codes "X") slots
+net_item_tokens (net_items.Y edges) = call number_tokens (codes "Y") edges
+net_item_tokens (net_items.Loop label) = call number_tokens (codes "Loop") (label ∷ [])
 
 abbrev pub IsTextNetItem : NetItem → Type 0
 IsTextNetItem (net_items.X slots) = AreNumbers 4 slots

@@ -1,13 +1,13 @@
 //! A word with arguments in brackets, `head[a,..,a]`.
 
-ghost use Rattle.std.specs.Prelude.{◌≡◌, ◌<◌, ◌≤◌, length, IfOk, IfErr, List, ℕ, decimal, false, if◌then◌else◌};
-ghost use Rattle.text_shapes.specs.Tokens.{is_space, IsNumber};
+ghost use Rattle.std.specs.Prelude.{◌≡◌, ◌<◌, ◌≤◌, length, IfOk, IfErr, List, ℕ, false, if◌then◌else◌};
+ghost use Rattle.text_shapes.specs.Tokens.{is_space, number_tokens};
 ghost use Rattle.text_shapes.specs.Shapes.{call, AreOf};
 ghost use Rattle.text_shapes.specs.Reach.{IsWord};
-ghost use Rattle.text_shapes.specs.Readers.{TokenFound, TokenMissed, Found, Missed, OtherHeadsStop, separator_of};
+ghost use Rattle.text_shapes.specs.Readers.{Found, Missed, OtherHeadsStop, separator_of};
 ghost use Rattle.pd_reader.specs.Texts.{IsOfKind};
 
-use crate::scan::{mark, number, skip, word};
+use crate::scan::{mark, read_number, word};
 
 /// What may stand between the brackets of a call. A number is such an argument; where others stand
 /// there too, as the signs of a script, a crate above has a type of its own.
@@ -17,8 +17,8 @@ pub trait Argument: Copy {
     /// The second is of the kind that the slot, the first, asks for.
     ghost is_of_kind: { Self → Self → Type 0 };
 
-    /// The token that spells the argument.
-    ghost token: { Self → List ℕ };
+    /// The tokens that spell the argument.
+    ghost tokens: { Self → List (List ℕ) };
 
     /// Some argument of the kind.
     ghost some: { Self → Self };
@@ -27,8 +27,8 @@ pub trait Argument: Copy {
     /// or how far the bytes go on as one.
     fn read(self, bytes: &[u8], at: usize) -> Result<(Self, usize), usize>
         requires { at ≤ length bytes.now }
-        ensures ok { IfOk result (λ found. TokenFound (is_of_kind self) token bytes.now at found.0 found.1) }
-        ensures err { IfErr result (λ p. TokenMissed (is_of_kind self) token bytes.now at p) };
+        ensures ok { IfOk result (λ found. Found (is_of_kind self) tokens bytes.now at found.0 found.1) }
+        ensures err { IfErr result (λ p. Missed (is_of_kind self) tokens bytes.now at p) };
 
     ghost some_is_of_kind: { (slot : Self) → is_of_kind slot (some slot) };
 }
@@ -36,20 +36,16 @@ pub trait Argument: Copy {
 impl Argument for u32 {
     ghost is_of_kind = { IsOfKind };
 
-    ghost token = { decimal };
+    ghost tokens = { number_tokens };
 
     ghost some = { λ _. 1 };
 
-    ghost use Rattle.pd_reader.specs.Texts.{one_is_a_number};
+    ghost use Rattle.text_shapes.specs.Tokens.{one_is_a_number};
 
     ghost some_is_of_kind = { λ _. one_is_a_number };
 
     fn read(self, bytes: &[u8], at: usize) -> Result<(u32, usize), usize> {
-        let start = skip(bytes, at);
-        match number(bytes, start) {
-            Some(found) => Ok(found),
-            None => Err(start),
-        }
+        read_number(bytes, at)
     }
 }
 
@@ -73,9 +69,9 @@ pub fn read_call<A: Argument>(
     requires within { at ≤ length bytes.now }
     requires word { IsWord head.now }
     requires some { 0 < length slots.old }
-    ensures ok { IfOk result (λ next. Found (AreOf A.is_of_kind slots.old) (call A.token head.now) bytes.now at slots.new next) }
-    ensures err { IfErr result (λ p. Missed (AreOf A.is_of_kind slots.old) (call A.token head.now) bytes.now at p) }
-    ensures others { IfOk result (λ next. OtherHeadsStop A.token bytes.now at head.now next) }
+    ensures ok { IfOk result (λ next. Found (AreOf A.is_of_kind slots.old) (call A.tokens head.now) bytes.now at slots.new next) }
+    ensures err { IfErr result (λ p. Missed (AreOf A.is_of_kind slots.old) (call A.tokens head.now) bytes.now at p) }
+    ensures others { IfOk result (λ next. OtherHeadsStop A.tokens bytes.now at head.now next) }
 {
     let mut place = word(bytes, at, head)?;
     for i in 0..slots.len() {

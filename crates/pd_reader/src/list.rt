@@ -1,9 +1,9 @@
-//! Lists in brackets, `head[item,..,item]`.
+//! Lists: items with a comma between two, and the mark that closes.
 
-ghost use Rattle.std.specs.Prelude.{◌≡◌, ◌≤◌, ◌++◌, length, IfOk, IfErr, List, ℕ, ◌∷◌};
+ghost use Rattle.std.specs.Prelude.{◌≡◌, ◌≤◌, ◌++◌, true, length, IfOk, IfErr, List, ℕ, ◌∷◌};
 ghost use Rattle.std.specs.List.{AllByRecursion};
-ghost use Rattle.text_shapes.specs.Shapes.{items_behind, listed};
-ghost use Rattle.text_shapes.specs.Reach.{IsToken, BeginsWithLetter};
+ghost use Rattle.text_shapes.specs.Shapes.{items_behind, items_inside, listed};
+ghost use Rattle.text_shapes.specs.Reach.{IsToken, BeginsUnclosed, is_closing};
 ghost use Rattle.text_shapes.specs.Readers.{Found, Missed, Accepts};
 ghost use Rattle.pd_reader.specs.Stops.{MissesAt, StopsAt};
 
@@ -27,16 +27,24 @@ pub trait TextItem: Copy {
         ensures ok { IfOk result (λ found. Found fits tokens bytes.now at found.0 found.1) }
         ensures err { IfErr result (λ p. Missed fits tokens bytes.now at p) };
 
-    ghost begins_with_letter: { (item : Self) → BeginsWithLetter (tokens item) };
+    ghost begins_unclosed: { (item : Self) → fits item → BeginsUnclosed (tokens item) };
 }
 
-/// Reads `,item,..,item]`, with any number of items, and puts them behind those of `items`. It says where
-/// the list ends, or how far the bytes go on as one; of `items` nothing is said then.
-pub fn read_behind<I: TextItem>(bytes: &[u8], at: usize, items: &mut Vec<I>) -> Result<usize, Stop>
-    requires { at ≤ length bytes.now }
+/// Reads `,item,..,item` and the mark that closes, `]` or `}`, with any number of items, and puts them behind
+/// those of `items`. It says where the list ends, or how far the bytes go on as one; what was read until then
+/// is kept.
+pub fn read_behind<I: TextItem>(
+    bytes: &[u8],
+    at: usize,
+    close: u8,
+    items: &mut Vec<I>,
+) -> Result<usize, Stop>
+    requires within { at ≤ length bytes.now }
+    requires closing { is_closing close ≡ true }
     ensures ok { IfOk result (λ next. (read : List I) × (items.new.items ≡ items.old.items ++ read)
-        × Found (AllByRecursion I.fits) (items_behind I.tokens) bytes.now at read next) }
-    ensures err { IfErr result (λ stop. MissesAt (AllByRecursion I.fits) (items_behind I.tokens) bytes.now at stop) }
+        × Found (AllByRecursion I.fits) (items_behind close I.tokens) bytes.now at read next) }
+    ensures err { IfErr result (λ stop. MissesAt (AllByRecursion I.fits) (items_behind close I.tokens) bytes.now at stop) }
+    ensures kept { (read : List I) × (items.new.items ≡ items.old.items ++ read) × AllByRecursion I.fits read }
 {
     let mut next = skip(bytes, at);
     while stands(bytes, next, b',') {
@@ -44,11 +52,35 @@ pub fn read_behind<I: TextItem>(bytes: &[u8], at: usize, items: &mut Vec<I>) -> 
         items.push(item)?;
         next = skip(bytes, after);
     }
-    if stands(bytes, next, b']') {
+    if stands(bytes, next, close) {
         Ok(next + 1)
     } else {
         Err(Stop::At(next))
     }
+}
+
+/// Reads `item,..,item` and the mark that closes, `]` or `}`, with any number of items, and says where the
+/// list ends, or how far the bytes go on as one.
+pub fn read_inside<I: TextItem>(
+    alloc: Global,
+    bytes: &[u8],
+    at: usize,
+    close: u8,
+) -> Result<(Vec<I>, usize), Stop>
+    requires within { at ≤ length bytes.now }
+    requires closing { is_closing close ≡ true }
+    ensures ok { IfOk result (λ found. Found (AllByRecursion I.fits) (items_inside close I.tokens) bytes.now at found.0.items found.1) }
+    ensures err { IfErr result (λ stop. MissesAt (AllByRecursion I.fits) (items_inside close I.tokens) bytes.now at stop) }
+{
+    let mut items = Vec::new(alloc);
+    let first = skip(bytes, at);
+    if stands(bytes, first, close) {
+        return Ok((items, first + 1));
+    }
+    let (item, after) = I::read(bytes, first)?;
+    items.push(item)?;
+    let next = read_behind(bytes, after, close, &mut items)?;
+    Ok((items, next))
 }
 
 /// Reads `head[item,..,item]`, with any number of items, and says where the list ends, or how far the bytes
@@ -64,16 +96,9 @@ pub fn read_list<I: TextItem>(
     ensures ok { IfOk result (λ found. Found (AllByRecursion I.fits) (listed I.tokens head.now) bytes.now at found.0.items found.1) }
     ensures err { IfErr result (λ stop. MissesAt (AllByRecursion I.fits) (listed I.tokens head.now) bytes.now at stop) }
 {
-    let mut items = Vec::new(alloc);
     let place = word(bytes, at, head)?;
     let opened = mark(bytes, place, b'[')?;
-    let first = skip(bytes, opened);
-    if stands(bytes, first, b']') {
-        return Ok((items, first + 1));
-    }
-    let (item, after) = I::read(bytes, first)?;
-    items.push(item)?;
-    let next = read_behind(bytes, after, &mut items)?;
+    let (items, next) = read_inside(alloc, bytes, opened, b']')?;
     Ok((items, next))
 }
 

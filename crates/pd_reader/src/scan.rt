@@ -1,9 +1,9 @@
 //! The tokens at a place of a text. Places count bytes from 0.
 
 ghost use Rattle.std.specs.Prelude.{◌≡◌, ◌+◌, ◌<◌, ◌≤◌, length, drop, slice_index, IsTrue, IfOk, IfErr, IfSome, OnOk, IfNone, ◌↔◌, false, suc, [], ◌∷◌};
-ghost use Rattle.text_shapes.specs.Tokens.{is_space};
+ghost use Rattle.text_shapes.specs.Tokens.{is_space, IsNumber, number_tokens};
 ghost use Rattle.text_shapes.specs.Reach.{common, is_digit, place, IsToken};
-ghost use Rattle.text_shapes.specs.Readers.{Skips, Stands, Falls, LongestNumber, BeginsNoNumber};
+ghost use Rattle.text_shapes.specs.Readers.{Skips, Stands, Falls, LongestNumber, BeginsNoNumber, Found, Missed};
 
 #[tactic(auto, unfolding(text_shapes::specs::Tokens::is_space))]
 fn is_white(byte: u8) -> bool
@@ -60,6 +60,20 @@ pub fn number(bytes: &[u8], at: usize) -> Option<(u32, usize)>
         place += 1;
     }
     Some((value, place))
+}
+
+/// The longest number that stands from `at` on behind white space, and where it ends, or the place at which
+/// none begins.
+pub fn read_number(bytes: &[u8], at: usize) -> Result<(u32, usize), usize>
+    requires { at ≤ length bytes.now }
+    ensures ok { IfOk result (λ found. Found IsNumber number_tokens bytes.now at found.0 found.1) }
+    ensures err { IfErr result (λ p. Missed IsNumber number_tokens bytes.now at p) }
+{
+    let start = skip(bytes, at);
+    match number(bytes, start) {
+        Some(found) => Ok(found),
+        None => Err(start),
+    }
 }
 
 /// Where a word ends that may stand behind white space, or the place up to which it stands.

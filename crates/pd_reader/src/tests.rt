@@ -188,5 +188,21 @@ fn tokens(rt: HostRuntime) -> Result<(), Fail> {
     assert_eq!(rt; agree(b"R2Un[", 0, b"R2Undo"), 4);
     assert_eq!(rt; number(b"7,12", 2), Some((12, 4)));
     assert_eq!(rt; number(b"012", 0), None);
+    assert_eq!(rt; read_number(b" 12]", 0), Ok((12, 3)));
+    assert_eq!(rt; read_number(b" ]", 0), Err(1));
+    assert_eq!(rt; place_at(b"PD", 2), Place::Text { at: 2 });
+    Ok(())
+}
+
+/// A list in braces, of signed numbers, and what is kept of one that breaks off.
+#[test]
+fn signed_numbers(rt: HostRuntime) -> Result<(), Fail> {
+    let (entries, end) = read_inside::<i32>(rt.alloc(), b" 1, - 2 }x", 0, b'}')
+        .ok()
+        .ok_or("a list")?;
+    assert_eq!(rt; (entries.as_slice(), end), ([1, -2].as_slice(), 9));
+    let mut kept = Vec::from_slice(rt.alloc(), &[7])?;
+    assert_eq!(rt; read_behind(b",-5,x", 0, b']', &mut kept), Err(Stop::At(4)));
+    assert_eq!(rt; kept.as_slice(), [7, -5].as_slice());
     Ok(())
 }

@@ -5,14 +5,15 @@ ghost use Rattle.text_shapes.specs.Readers.{Found, Missed};
 ghost use Rattle.pd_reader.specs.Items.{item_labels, net_item_labels};
 ghost use Rattle.pd_reader.specs.Diagrams.{refusal};
 ghost use Rattle.pd_reader.specs.Texts.{IsTextItem, item_tokens, IsTextNetItem, net_item_tokens, IsPdText, IsNetText};
-ghost use Rattle.pd_reader.specs.Faults.{NamesByte};
-ghost use Rattle.pd_reader.specs.Answers.{IsPdRefusal, IsNetRefusal, Answers};
+ghost use Rattle.pd_reader.specs.Faults.{IsNamed, cause};
+ghost use Rattle.pd_reader.specs.Answers.{Answers};
+ghost use Rattle.pd_reader.specs.Refusals.{IsPdRefusal, IsNetRefusal};
 ghost use Rattle.pd_reader.specs.declared.item.Item.{Item};
 ghost use Rattle.pd_reader.specs.declared.item.NetItem.{NetItem};
 
 use crate::call::read_call;
 use crate::diagram::{Diagram, NetDiagram};
-use crate::fault::{Stop, TextFault, fault_at};
+use crate::fault::{Stop, TextFault, place_at};
 use crate::item::{Item, NetItem};
 use crate::list::{TextItem, read_text};
 use std::alloc::Global;
@@ -22,7 +23,7 @@ impl TextItem for Item {
 
     ghost tokens = { item_tokens };
 
-    ghost begins_with_letter = { elim [ Item.X slots ↦ refl | Item.Loop label ↦ refl ] };
+    ghost begins_unclosed = { elim [ Item.X slots ↦ λ _. refl | Item.Loop label ↦ λ _. refl ] };
 
     fn read(bytes: &[u8], at: usize) -> Result<(Item, usize), usize> {
         let mut slots = [0; 4];
@@ -44,7 +45,7 @@ impl TextItem for NetItem {
 
     ghost tokens = { net_item_tokens };
 
-    ghost begins_with_letter = { elim [ NetItem.X slots ↦ refl | NetItem.Y edges ↦ refl | NetItem.Loop label ↦ refl ] };
+    ghost begins_unclosed = { elim [ NetItem.X slots ↦ λ _. refl | NetItem.Y edges ↦ λ _. refl | NetItem.Loop label ↦ λ _. refl ] };
 
     fn read(bytes: &[u8], at: usize) -> Result<(NetItem, usize), usize> {
         let mut slots = [0; 4];
@@ -79,16 +80,16 @@ pub fn read_pd(alloc: Global, bytes: &[u8]) -> Result<Diagram, TextFault>
     // What is read is what the text spells.
     ensures read { IfOk result (λ diagram. IsPdText bytes.now diagram) }
     // A text is read, or its items are refused for the first reason against them, or memory runs out.
-    ensures text { (items : List Item) → IsPdText bytes.now items → Answers (refusal item_labels items) items result }
+    ensures text { (items : List Item) → IsPdText bytes.now items → Answers cause (refusal item_labels items) items result }
     // A refusal that names a place stands where the bytes stop being the beginning of a text, and any
     // other but want of memory is of a text's items.
     ensures refused { IfErr result (λ fault. IsPdRefusal bytes.now fault) }
     // It is named by the byte there.
-    ensures named { IfErr result (λ fault. NamesByte bytes.now fault) }
+    ensures named { IfErr result (λ fault. IsNamed bytes.now (cause fault)) }
 {
     match read_text(alloc, bytes, b"PD") {
         Ok(items) => Ok(Diagram::new(alloc, &items)?),
-        Err(Stop::At(at)) => Err(fault_at(bytes, at)),
+        Err(Stop::At(at)) => Err(TextFault::from(place_at(bytes, at))),
         Err(Stop::Memory) => Err(TextFault::Memory),
     }
 }
@@ -101,16 +102,16 @@ pub fn read_net(alloc: Global, bytes: &[u8]) -> Result<NetDiagram, TextFault>
     // What is read is what the text spells.
     ensures read { IfOk result (λ net. IsNetText bytes.now net) }
     // A text is read, or its items are refused for the first reason against them, or memory runs out.
-    ensures text { (items : List NetItem) → IsNetText bytes.now items → Answers (refusal net_item_labels items) items result }
+    ensures text { (items : List NetItem) → IsNetText bytes.now items → Answers cause (refusal net_item_labels items) items result }
     // A refusal that names a place stands where the bytes stop being the beginning of a text, and any
     // other but want of memory is of a text's items.
     ensures refused { IfErr result (λ fault. IsNetRefusal bytes.now fault) }
     // It is named by the byte there.
-    ensures named { IfErr result (λ fault. NamesByte bytes.now fault) }
+    ensures named { IfErr result (λ fault. IsNamed bytes.now (cause fault)) }
 {
     match read_text(alloc, bytes, b"Net") {
         Ok(items) => Ok(NetDiagram::new(alloc, &items)?),
-        Err(Stop::At(at)) => Err(fault_at(bytes, at)),
+        Err(Stop::At(at)) => Err(TextFault::from(place_at(bytes, at))),
         Err(Stop::Memory) => Err(TextFault::Memory),
     }
 }

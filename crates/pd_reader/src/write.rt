@@ -11,7 +11,7 @@ use std::alloc::{AllocError, Global};
 
 /// Writes `,item,..,item]` behind the text.
 fn write_behind(alloc: Global, text: &mut Vec<u8>, items: &[Item]) -> Result<(), AllocError>
-    ensures { OnOk result (text.new.items ≡ text.old.items ++ concat (items_behind item_tokens items.now)) }
+    ensures { OnOk result (text.new.items ≡ text.old.items ++ concat (items_behind 93 item_tokens items.now)) }
 {
     for item in items {
         text.push(b',')?;

@@ -5,10 +5,13 @@
 --     LeadsTo-found, LeadsTo-missed  what is found or missed behind the steps is, of the whole
 --     part_found, part_missed        a value that is a pair of parts
 --     token_stands, token_falls      a token before each value
+--     then_found, then_falls, then_missed   a mark behind each value
 --     found_accepts, found_refuses, missed_refuses   from a part to all the bytes
-use Rattle.std.proofs.Common.{inl, inr, ◌≡◌, ◌⊎◌, ℕ, suc, ◌<◌, ◌≤◌, List, [], ◌∷◌, ◌++◌, length, refl, sym, ap, subst, ◌∙◌, append_assoc, append-nil, arith}
-use Rattle.text_shapes.specs.Reach.{IsToken, place}
+use Rattle.std.proofs.Common.{inl, inr, ◌≡◌, ℕ, suc, ◌<◌, ◌≤◌, false, List, [], ◌∷◌, ◌++◌, length, refl, sym, ap, subst, ◌∙◌, append_assoc, append-nil, arith}
+use Rattle.text_shapes.specs.Tokens.{is_space}
+use Rattle.text_shapes.specs.Reach.{IsMarked, IsToken, is_word_byte, place}
 use Rattle.text_shapes.specs.Readers.{Accepts, Falls, Found, LeadsTo, Missed, Refuses, Stands}
+use Rattle.text_shapes.proofs.Ends.{mark_ends}
 use Rattle.text_shapes.proofs.Words.{place-stands}
 
 pub LeadsTo-then : {A W U : Type 0} (fits_a : A → Type 0) (F : A → List (List ℕ)) (fits_w : W → Type 0) (G : W → List (List ℕ)) (fits_u : U → Type 0) (H : U → List (List ℕ)) (e : W → A) (f : U → W) (bytes : List ℕ) (a b c : ℕ)
@@ -47,26 +50,27 @@ pub LeadsTo-found : {A W : Type 0} (fits_a : A → Type 0) (F : A → List (List
 LeadsTo-found fits_a F fits_w G e bytes a b next w l f = record {
   fits_shape = l.onto w f.fits_shape;
   from = omega (arith, l.from, f.from);
+  ends = f.ends;
   within = f.within;
   same = λ more. l.same w more ∙ f.same more;
-  others = λ v more h. elim (l.others v more h) [
+  others = λ v more h marked. elim (l.others v more h) [
     | inr passed ↦ inr (omega (arith, passed, f.from))
-    | inl left ↦ elim (f.others left.0 more left.2) [
+    | inl left ↦ elim (f.others left.0 more left.2 marked) [
       | inl is ↦ inl (left.1 ∙ ap e is)
       | inr passed ↦ inr (rw left.1 (omega (arith, l.same left.0 more, passed)))
     ]
   ];
 }
 
--- a part that is found, and what comes behind it, which may hang on it: first F, then G
+-- a part that is found, and what comes behind it: first F, then G, which begins with a mark
 pub part_found : {V W : Type 0} (fits_v : V → Type 0) (F : V → List (List ℕ)) (fits_w : W → Type 0) (G : W → List (List ℕ)) (bytes : List ℕ) (a b : ℕ) (v : V)
-    → Found fits_v F bytes a v b → LeadsTo (λ (p : V × W). fits_v p.0 × fits_w p.1) (λ p. F p.0 ++ G p.1) fits_w G (λ w. (v, w)) bytes a b
-part_found {V = V'} fits_v F fits_w G bytes a b v f = record {
-  from = f.from;
+    → ((w : W) (more : List (List ℕ)) → IsMarked (G w ++ more)) → Found fits_v F bytes a v b → LeadsTo (λ (p : V × W). fits_v p.0 × fits_w p.1) (λ p. F p.0 ++ G p.1) fits_w G (λ w. (v, w)) bytes a b
+part_found {V = V'} fits_v F fits_w G bytes a b v marked f = record {
+  from = omega (arith, f.from);
   within = f.within;
   onto = λ w h. (f.fits_shape, h);
   same = λ w more. ap (place bytes a) (append_assoc (F v) (G w) more) ∙ f.same (G w ++ more);
-  others = λ p more h. elim (f.others p.0 (G p.1 ++ more) h.0) [
+  others = λ p more h. elim (f.others p.0 (G p.1 ++ more) h.0 (marked p.1 more)) [
     | inl is ↦ inl (p.1, ap (λ (x : V'). (x, p.1)) is, h.1)
     | inr le ↦ inr (subst (λ (ts : List (List ℕ)). place bytes a ts ≤ b) (sym (append_assoc (F p.0) (G p.1) more)) le)
   ];
@@ -102,29 +106,54 @@ token_falls fits t G bytes a p v h f = record {
   most = λ w more k. omega (arith, f.same (G w ++ more));
 }
 
-abbrev pub Fits_either : {A B : Type 0} → (A → Type 0) → (B → Type 0) → A ⊎ B → Type 0
-Fits_either fits_a fits_b (inl v) = fits_a v
-Fits_either fits_a fits_b (inr w) = fits_b w
+-- a mark behind each value of a family
+module _ {V : Type 0} (fits : V → Type 0) (F : V → List (List ℕ)) (c : ℕ) (no_space : is_space c ≡ false) (mark : is_word_byte c ≡ false) (bytes : List ℕ) (at : ℕ) where
+  abbrev pub Then : V → List (List ℕ)
+  Then v = F v ++ (c ∷ []) ∷ []
 
-abbrev pub Either_tokens : {A B : Type 0} → (A → List (List ℕ)) → (B → List (List ℕ)) → A ⊎ B → List (List ℕ)
-Either_tokens F G (inl v) = F v
-Either_tokens F G (inr w) = G w
+  regrouped : (v : V) (more : List (List ℕ)) → place bytes at (Then v ++ more) ≡ place bytes at (F v ++ (c ∷ []) ∷ more)
+  regrouped v more = ap (place bytes at) (append_assoc (F v) ((c ∷ []) ∷ []) more)
 
--- two ways to go on, of which one is found and the other has broken off, or both are missed
-pub first_way : {A B : Type 0} (fits_a : A → Type 0) (F : A → List (List ℕ)) (fits_b : B → Type 0) (G : B → List (List ℕ)) (bytes : List ℕ) (a next : ℕ) (v : A)
-    → Found fits_a F bytes a v next → ((w : B) (more : List (List ℕ)) → fits_b w → place bytes a (G w ++ more) ≤ next) → Found (λ (x : A ⊎ B). Fits_either fits_a fits_b x) (Either_tokens F G) bytes a (inl v) next
-first_way {A = A'} {B = B'} fits_a F fits_b G bytes a next v f ends = record { fits_shape = f.fits_shape; from = f.from; within = f.within; same = f.same; others = others }
-  where
-    others : (x : A' ⊎ B') (more : List (List ℕ)) → Fits_either fits_a fits_b x → (x ≡ inl v) ⊎ (place bytes a (Either_tokens F G x ++ more) ≤ next)
-    others (inl w) more h = elim (f.others w more h) [ inl e ↦ inl (ap (λ (y : A'). inl y) e) | inr le ↦ inr le ]
-    others (inr w) more h = inr (ends w more h)
+  pub then_found : (v : V) (next end : ℕ) → Found fits F bytes at v next → Stands bytes next (c ∷ []) end → Found fits Then bytes at v end
+  then_found v next end f s = record {
+    fits_shape = f.fits_shape;
+    from = omega (arith, f.from, s.sum);
+    ends = mark_ends bytes next c end no_space s;
+    within = s.within;
+    same = λ more. regrouped v more ∙ f.same ((c ∷ []) ∷ more) ∙ place-stands bytes next (c ∷ []) end more no_space s;
+    others = λ w more h marked. elim (f.others w ((c ∷ []) ∷ more) h mark) [
+      | inl is ↦ inl is
+      | inr le ↦ inr (omega (arith, le, regrouped w more, s.sum))
+    ];
+  }
+
+  pub then_falls : (v : V) (next p : ℕ) → Found fits F bytes at v next → Falls bytes next (c ∷ []) p → Missed fits Then bytes at p
+  then_falls v next p f falls = record {
+    within = falls.within;
+    furthest = v;
+    fits_shape = f.fits_shape;
+    reached = λ more. regrouped v more ∙ f.same ((c ∷ []) ∷ more) ∙ falls.same more;
+    most = λ w more h. elim (f.others w ((c ∷ []) ∷ more) h mark) [
+      | inl is ↦ rw is (omega (arith, regrouped v more, f.same ((c ∷ []) ∷ more), falls.same more))
+      | inr le ↦ omega (arith, le, regrouped w more, falls.same [])
+    ];
+  }
+
+  pub then_missed : (p : ℕ) → Missed fits F bytes at p → Missed fits Then bytes at p
+  then_missed p m = record {
+    within = m.within;
+    furthest = m.furthest;
+    fits_shape = m.fits_shape;
+    reached = λ more. regrouped m.furthest more ∙ m.reached ((c ∷ []) ∷ more);
+    most = λ w more h. omega (arith, regrouped w more, m.most w ((c ∷ []) ∷ more) h);
+  }
 
 -- a whole input
 pub found_accepts : {A : Type 0} (fits : A → Type 0) (F : A → List (List ℕ)) (bytes : List ℕ) (v : A) (next : ℕ) → Found fits F bytes 0 v next → place bytes next [] ≡ suc (length bytes) → Accepts fits F bytes v
 found_accepts fits F bytes v next f e = record {
   fits_shape = f.fits_shape;
   reaches = subst (λ (ts : List (List ℕ)). length bytes < place bytes 0 ts) (append-nil (F v)) (omega (arith, f.same [], e));
-  others = λ w h. elim (f.others w [] h) [
+  others = λ w h. elim (f.others w [] h tt) [
     | inl is ↦ inl is
     | inr le ↦ inr (subst (λ (ts : List (List ℕ)). place bytes 0 ts ≤ length bytes) (append-nil (F w)) (omega (arith, le, f.within)))
   ];
@@ -139,7 +168,7 @@ found_refuses {A = A'} fits F bytes v next p f e within = record {
   most = most;
 } where
   most : (w : A') → fits w → place bytes 0 (F w) ≤ p
-  most w h = elim (f.others w [] h) [
+  most w h = elim (f.others w [] h tt) [
     | inl is ↦ rw is (subst (λ (ts : List (List ℕ)). place bytes 0 ts ≤ p) (append-nil (F v)) (omega (arith, f.same [], e)))
     | inr le ↦ subst (λ (ts : List (List ℕ)). place bytes 0 ts ≤ p) (append-nil (F w)) (omega (arith, le, e))
   ]

@@ -32,11 +32,11 @@ abbrev pub OneOf : List (List ℕ) → List ℕ → Type 0
 OneOf [] h = ⊥
 OneOf (x ∷ xs) h = (h ≡ x) ⊎ OneOf xs h
 
-module _ {V K A : Type 0} (token : A → List ℕ) (fits : K → A → Type 0) (fits_value : V → Type 0) (tokens : V → List (List ℕ)) (slots : List ℕ → List K) (back : List ℕ → List A → V) where
+module _ {V K A : Type 0} (argument : A → List (List ℕ)) (fits : K → A → Type 0) (fits_value : V → Type 0) (tokens : V → List (List ℕ)) (slots : List ℕ → List K) (back : List ℕ → List A → V) where
   -- each value is a call of a head, whose arguments are of the kinds of the head's slots, and back makes it of them
   pub record AreCalls (head : V → List ℕ) (arguments_of : V → List A) : Type 0 where
     pub word : (v : V) → IsWord (head v)
-    pub tokens_are : (v : V) → tokens v ≡ call token (head v) (arguments_of v)
+    pub tokens_are : (v : V) → tokens v ≡ call argument (head v) (arguments_of v)
     pub of_kinds : (v : V) → fits_value v → AreOf fits (slots (head v)) (arguments_of v)
     pub back_is : (v : V) → back (head v) (arguments_of v) ≡ v
 
@@ -44,7 +44,7 @@ module _ {V K A : Type 0} (token : A → List ℕ) (fits : K → A → Type 0) (
   pub record Makes (head : V → List ℕ) (h : List ℕ) : Type 0 where
     pub head_is : (all : List A) → AreOf fits (slots h) all → head (back h all) ≡ h
     pub fits_back : (all : List A) → AreOf fits (slots h) all → fits_value (back h all)
-    pub tokens_back : (all : List A) → AreOf fits (slots h) all → tokens (back h all) ≡ call token h all
+    pub tokens_back : (all : List A) → AreOf fits (slots h) all → tokens (back h all) ≡ call argument h all
 
   -- the values with one of these heads
   abbrev pub Among : (V → List ℕ) → List (List ℕ) → V → Type 0
@@ -52,15 +52,16 @@ module _ {V K A : Type 0} (token : A → List ℕ) (fits : K → A → Type 0) (
 
   module _ (head : V → List ℕ) (arguments_of : V → List A) (calls : AreCalls head arguments_of) (bytes : List ℕ) (at : ℕ) where
     pub choice_found : (h : List ℕ) → Makes head h → (all : List A) (next : ℕ)
-        → Found (AreOf fits (slots h)) (call token h) bytes at all next → OtherHeadsStop token bytes at h next → Found fits_value tokens bytes at (back h all) next
+        → Found (AreOf fits (slots h)) (call argument h) bytes at all next → OtherHeadsStop argument bytes at h next → Found fits_value tokens bytes at (back h all) next
     choice_found h makes all next f stops = record {
       fits_shape = makes.fits_back all f.fits_shape;
       from = f.from;
+      ends = f.ends;
       within = f.within;
       same = λ more. rw (makes.tokens_back all f.fits_shape) (f.same more);
-      others = λ other more fits_other. elim (cases_same (head other) h) [
+      others = λ other more fits_other marked. elim (cases_same (head other) h) [
         | inr ne ↦ inr (rw (calls.tokens_are other) (stops (head other) (arguments_of other) more (calls.word other) ne))
-        | inl e ↦ elim (f.others (arguments_of other) more (subst (λ (x : List ℕ). AreOf fits (slots x) (arguments_of other)) e (calls.of_kinds other fits_other))) [
+        | inl e ↦ elim (f.others (arguments_of other) more (subst (λ (x : List ℕ). AreOf fits (slots x) (arguments_of other)) e (calls.of_kinds other fits_other)) marked) [
           | inl same ↦ inl (sym (calls.back_is other) ∙ (ap (λ (x : List ℕ). back x (arguments_of other)) e ∙ ap (back h) same))
           | inr le ↦ inr (rw (calls.tokens_are other, e) le)
         ]
@@ -68,7 +69,7 @@ module _ {V K A : Type 0} (token : A → List ℕ) (fits : K → A → Type 0) (
     }
 
     pub choice_missed : (h : List ℕ) → Makes head h → (p : ℕ)
-        → Missed (AreOf fits (slots h)) (call token h) bytes at p → Missed (Among head (h ∷ [])) tokens bytes at p
+        → Missed (AreOf fits (slots h)) (call argument h) bytes at p → Missed (Among head (h ∷ [])) tokens bytes at p
     choice_missed h makes p m = record {
       within = m.within;
       furthest = back h m.furthest;

@@ -1,9 +1,10 @@
 -- The marks of a call: the bracket that opens stands before the first argument, and a comma before each
 -- other. A mark is no letter and no digit.
-use Rattle.std.proofs.Common.{◌≡◌, ℕ, true, false, cond, eqb, List, [], ◌∷◌, ◌++◌, refl, sym, ap, ◌∙◌}
+use Rattle.std.proofs.Common.{◌≡◌, ℕ, true, false, cond, eqb, codes, List, [], ◌∷◌, ◌++◌, refl, sym, ap, ◌∙◌}
 use Rattle.std.specs.List.{AllByRecursion}
-use Rattle.text_shapes.specs.Reach.{IsToken, is_word_byte}
+use Rattle.text_shapes.specs.Reach.{IsMarked, IsToken, is_word_byte}
 use Rattle.text_shapes.specs.Readers.{separator_of}
+use Rattle.text_shapes.specs.Shapes.{arguments}
 use Rattle.text_shapes.specs.Tokens.{IsSpace, is_space}
 use Rattle.text_shapes.proofs.Words.{word_byte_no_space}
 
@@ -33,3 +34,15 @@ no_letter [] i rest c y blank letter e =
     let bad : false ≡ true = sym m.2 ∙ (ap is_word_byte is ∙ letter) in
     absurd cc
 no_letter (b ∷ space) i rest c y blank letter e = let is : b ≡ c = cc in let bad : true ≡ false = sym blank.0 ∙ (ap is_space is ∙ word_byte_no_space c letter) in absurd cc
+
+-- behind an argument stands a mark, and so behind the head
+module _ {A : Type 0} (tokens : A → List (List ℕ)) where
+  pub comma_marked : (ys : List A) (more : List (List ℕ)) → IsMarked (arguments tokens (codes ",") ys ++ more)
+  unfolding is_word_byte
+  comma_marked [] more = refl
+  comma_marked (y ∷ ys) more = refl
+
+  pub open_marked : (ys : List A) (more : List (List ℕ)) → IsMarked (arguments tokens (codes "[") ys ++ more)
+  unfolding is_word_byte
+  open_marked [] more = refl
+  open_marked (y ∷ ys) more = refl

@@ -2,17 +2,19 @@
 -- begins each breaks off at once.
 --
 --     number_found, number_missed    the same behind white space
+--     number_begins_unclosed         its first byte
 use Rattle.std.proofs.Common.{inl, inr, ◌≡◌, ◌⊎◌, ℕ, ◌+◌, ◌*◌, ◌/◌, ◌%◌, ◌^◌, ◌-◌, ◌<◌, ◌≤◌, true, false, leb, List, [], ◌∷◌, ◌++◌, length, drop, get_or, decimal, refl, sym, ap, subst, ◌∙◌, arith, length-append, length-drop}
 use Rattle.std.specs.List.{AllByRecursion}
 use Rattle.std.specs.Str.Parse.{AllDigits}
-use Rattle.std.proofs.lemmas.Bool.{ne_eqb, cases_eq, and_from, le-leb}
+use Rattle.std.proofs.lemmas.Bool.{ne_eqb, cases_eq, and_from, and_parts, le-leb, leb-true}
 use Rattle.std.proofs.lemmas.Str.Parse.{digit_at}
 use Rattle.std.proofs.lemmas.Fmt.{decimal_is_IsNumeral, decimal_step, length-decimal-le, decimal_injective, first_decimal, decimal_nonempty}
-use Rattle.text_shapes.specs.Reach.{IsWord, is_digit, is_word_byte, reach, start}
-use Rattle.text_shapes.specs.Readers.{LongestNumber, Skips, Stands, TokenFound, TokenMissed}
-use Rattle.text_shapes.specs.Tokens.{IsNumber, is_space}
+use Rattle.text_shapes.specs.Reach.{BeginsUnclosed, IsWord, is_closing, is_digit, is_word_byte, place, reach}
+use Rattle.text_shapes.specs.Readers.{Found, LongestNumber, Missed, Skips, Stands}
+use Rattle.text_shapes.specs.Tokens.{IsNumber, is_space, number_tokens, one_is_a_number}
 use Rattle.text_shapes.proofs.ReachLemmas.{over_space}
 use Rattle.text_shapes.proofs.Scans.{at_head}
+use Rattle.text_shapes.proofs.Ends.{word_ends}
 use Rattle.text_shapes.proofs.Words.{IsWord-token, digit_is_word_byte, place-beaten, place-stands}
 
 abbrev IsDigit : ℕ → Type 0
@@ -28,7 +30,7 @@ digits_are_word_bytes : (ds : List ℕ) → AllByRecursion IsDigit ds → AllByR
 digits_are_word_bytes [] h = tt
 digits_are_word_bytes (d ∷ ds) h = (digit_is_word_byte d h.0, digits_are_word_bytes ds h.1)
 
-small : (n : ℕ) → IsNumber n → n < 2 ^ 64
+pub small : (n : ℕ) → IsNumber n → n < 2 ^ 64
 small n h = omega (arith, h.high)
 
 decimal_digits : (n : ℕ) → IsNumber n → AllByRecursion IsDigit (decimal n)
@@ -67,13 +69,14 @@ number_apart : (m n : ℕ) → IsNumber m → IsNumber n → (m ≡ n → ⊥) �
 number_apart m n h k ne e = ne (decimal_injective m n (small m h) (small n k) e)
 
 -- behind white space
-pub number_found : (bytes : List ℕ) (at start n next : ℕ) → Skips bytes at start → LongestNumber bytes start n next → TokenFound IsNumber decimal bytes at n next
+pub number_found : (bytes : List ℕ) (at start n next : ℕ) → Skips bytes at start → LongestNumber bytes start n next → Found IsNumber number_tokens bytes at n next
 number_found bytes at start n next skip s =
     let word = decimal-word n s.fits in
     let stands : Stands bytes at (decimal n) next = record { space = skip.space; blank = skip.blank; split = skip.split ∙ ap (λ (x : List ℕ). skip.space ++ x) s.split; within = s.within; sum = omega (arith, skip.sum, s.sum) } in
     record {
-      fits_kind = s.fits;
-      from = omega (arith, skip.sum, s.sum);
+      fits_shape = s.fits;
+      from = omega (arith, skip.sum, s.sum, word.0);
+      ends = word_ends bytes at (decimal n) next word stands;
       within = s.within;
       same = λ ts. place-stands bytes at (decimal n) next ts (IsWord-token (decimal n) word) stands;
       others = λ m ts fits marked. elim (cases_eq m n) [
@@ -86,6 +89,14 @@ first_of_number : (ds : List ℕ) → 0 < length ds → AllByRecursion IsDigit d
 first_of_number [] lt all high = absurd (omega arith)
 first_of_number (c ∷ w) lt all high = (c, w, refl, high, all.0)
 
+-- a number begins with a digit, and not with a mark that closes
+pub number_begins_unclosed : (n : ℕ) → IsNumber n → BeginsUnclosed (number_tokens n)
+number_begins_unclosed n h =
+    let f = first_of_number (decimal n) (decimal_nonempty n (small n h)) (decimal_digits n h) (first_decimal n h.low (small n h)) in
+    let high = leb-true f.0 57 (and_parts (leb 48 f.0) (leb f.0 57) f.4).1 in
+    let apart : is_closing f.0 ≡ false = rw (ne_eqb f.0 93 (λ e. omega (arith, high)), ne_eqb f.0 125 (λ e. omega (arith, high))) refl in
+    subst (λ (ds : List ℕ). BeginsUnclosed (ds ∷ [])) (sym f.2) apart
+
 -- where no number begins, each breaks off
 no_number : (c : ℕ) (w : List ℕ) (ts : List (List ℕ)) (bs : List ℕ) → 48 < c → is_digit c ≡ true → (0 < length bs → is_space (get_or bs 0 0) ≡ false)
     → (0 < length bs → (is_digit (get_or bs 0 0) ≡ false) ⊎ (get_or bs 0 0 ≡ 48)) → reach [] ((c ∷ w) ∷ ts) bs ≡ 0
@@ -95,14 +106,19 @@ no_number c w ts (b ∷ bs) high digit stop none =
     let ne : b ≡ c → ⊥ = λ e. elim (none (omega arith)) [ inl none_here ↦ (let bad : false ≡ true = sym none_here ∙ (ap is_digit e ∙ digit) in absurd cc) | inr is ↦ omega arith ] in
     rw (stop (omega arith), ne_eqb b c ne) refl
 
-pub number_missed : (bytes : List ℕ) (at start : ℕ) → Skips bytes at start → (start < length bytes → (is_digit (get_or bytes start 0) ≡ false) ⊎ (get_or bytes start 0 ≡ 48)) → TokenMissed IsNumber decimal bytes at start
-number_missed bytes at start skip none =
-    record {
-      within = skip.within;
-      same = λ m ts fits.
-          let f = first_of_number (decimal m) (decimal_nonempty m (small m fits)) (decimal_digits m fits) (first_decimal m fits.low (small m fits)) in
-          let len : length (drop start bytes) ≡ length bytes - start = length-drop start bytes in
-          let zero_more : reach [] (decimal m ∷ ts) (drop start bytes) ≡ 0 = rw f.2 (no_number f.0 f.1 ts (drop start bytes) f.3 f.4 (λ lt. rw (at_head bytes start) (skip.stops (omega arith))) (λ lt. rw (at_head bytes start) (none (omega arith)))) in
-          let one : reach [] (decimal m ∷ ts) (drop at bytes) ≡ length skip.space + reach [] (decimal m ∷ ts) (drop start bytes) = ap (reach [] (decimal m ∷ ts)) skip.split ∙ over_space skip.space (decimal m ∷ ts) (drop start bytes) skip.blank in
-          omega (arith, one, zero_more, skip.sum);
-    }
+pub number_missed : (bytes : List ℕ) (at start : ℕ) → Skips bytes at start → (start < length bytes → (is_digit (get_or bytes start 0) ≡ false) ⊎ (get_or bytes start 0 ≡ 48)) → Missed IsNumber number_tokens bytes at start
+number_missed bytes at start skip none = record {
+  within = skip.within;
+  furthest = 1;
+  fits_shape = one_is_a_number;
+  reached = λ more. breaks 1 more one_is_a_number;
+  most = λ m more fits. omega (arith, breaks m more fits);
+}
+  where
+    breaks : (m : ℕ) (ts : List (List ℕ)) → IsNumber m → place bytes at (decimal m ∷ ts) ≡ start
+    breaks m ts fits =
+        let f = first_of_number (decimal m) (decimal_nonempty m (small m fits)) (decimal_digits m fits) (first_decimal m fits.low (small m fits)) in
+        let len : length (drop start bytes) ≡ length bytes - start = length-drop start bytes in
+        let zero_more : reach [] (decimal m ∷ ts) (drop start bytes) ≡ 0 = rw f.2 (no_number f.0 f.1 ts (drop start bytes) f.3 f.4 (λ lt. rw (at_head bytes start) (skip.stops (omega arith))) (λ lt. rw (at_head bytes start) (none (omega arith)))) in
+        let one : reach [] (decimal m ∷ ts) (drop at bytes) ≡ length skip.space + reach [] (decimal m ∷ ts) (drop start bytes) = ap (reach [] (decimal m ∷ ts)) skip.split ∙ over_space skip.space (decimal m ∷ ts) (drop start bytes) skip.blank in
+        omega (arith, one, zero_more, skip.sum)

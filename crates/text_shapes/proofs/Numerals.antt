@@ -7,6 +7,7 @@ use Rattle.std.proofs.lemmas.Fmt.{decimal-digits_value, decimal_is_IsNumeral, le
 use Rattle.std.proofs.lemmas.Bool.{cases_eq}
 use Rattle.std.proofs.Math.Nat.{pow-le-pow_right}
 use Rattle.text_shapes.specs.Tokens.{IsNumber, IsNumeral}
+use Rattle.text_shapes.proofs.Numbers.{small}
 
 value_bound : (ds : List ℕ) → AllDigits 10 ds → length ds ≤ 6 → digits_value 10 ds < 1000000
 value_bound ds h le =
@@ -16,8 +17,8 @@ value_bound ds h le =
 
 pub numeral_is : (ds : List ℕ) (n : ℕ) → IsNumeral ds n → IsNumber n × (ds ≡ decimal n)
 numeral_is ds n h =
-    let high = value_bound ds h.decimal h.at_most_six in
-    let spelled = decimal-digits_value (numerals_by_value (AllDigits 10) tells_digits) ds h.decimal h.some (λ e. absurd (h.first_is_not_zero e)) (omega (arith, high)) in
+    let high = value_bound ds h.are_digits h.at_most_six in
+    let spelled = decimal-digits_value (numerals_by_value (AllDigits 10) tells_digits) ds h.are_digits h.some (λ e. absurd (h.first_is_not_zero e)) (omega (arith, high)) in
     let low : 0 < digits_value 10 ds = elim (cases_eq (digits_value 10 ds) 0) [
       | inl zero_value ↦ absurd (h.first_is_not_zero (ap (λ (xs : List ℕ). get_or xs 0 0) (sym spelled ∙ (ap decimal zero_value ∙ decimal_digit 0 (omega arith)))))
       | inr ne ↦ omega (arith, ne)
@@ -26,12 +27,11 @@ numeral_is ds n h =
 
 pub is_numeral : (n : ℕ) → IsNumber n → IsNumeral (decimal n) n
 is_numeral n h =
-    let small : n < 2 ^ 64 = omega (arith, h.high) in
-    let d = decimal_is_IsNumeral n small in
+    let d = decimal_is_IsNumeral n (small n h) in
     record {
-      decimal = d.0.1;
+      are_digits = d.0.1;
       some = d.0.0;
-      at_most_six = length-decimal-le 6 n (omega arith) (omega (arith, h.high)) small;
-      first_is_not_zero = λ e. omega (arith, first_decimal n h.low small, e);
+      at_most_six = length-decimal-le 6 n (omega arith) (omega (arith, h.high)) (small n h);
+      first_is_not_zero = λ e. omega (arith, first_decimal n h.low (small n h), e);
       value = d.1;
     }

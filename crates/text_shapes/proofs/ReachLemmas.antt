@@ -23,7 +23,7 @@ over_word [] ts bs = omega arith
 over_word (c ∷ w) ts bs = reach-cons (c ∷ w) ts c (w ++ bs) ∙ rw (eq-eqb c c refl) (omega (arith, over_word w ts bs))
 
 pub over_token : (t : List ℕ) (ts : List (List ℕ)) (bs : List ℕ) → IsToken t → reach [] (t ∷ ts) (t ++ bs) ≡ length t + reach [] ts bs
-over_token [] ts bs h = absurd (h tt)
+over_token [] ts bs h = absurd h
 over_token (c ∷ w) ts bs h = reach-cons [] ((c ∷ w) ∷ ts) c (w ++ bs) ∙ rw (h, eq-eqb c c refl) (omega (arith, over_word w ts bs))
 
 all_space : (bs : List ℕ) → AllByRecursion IsSpace bs → reach [] [] bs ≡ suc (length bs)
@@ -116,7 +116,7 @@ cond_some false x y e = absurd cc
 
 start_tokens : (ts : List (List ℕ)) (b : ℕ) (r : Rest) → AreTokens ts → start ts b ≡ Some r → AreTokens r.1
 start_tokens [] b r h e = absurd cc
-start_tokens ([] ∷ ts) b r h e = absurd (h.0 tt)
+start_tokens ([] ∷ ts) b r h e = absurd h.0
 start_tokens ((c ∷ w) ∷ ts) b r h e = subst (λ (x : Rest). AreTokens x.1) (cond_some (eqb b c) (w, ts) r e) h.1
 
 step_tokens : (w : List ℕ) (ts : List (List ℕ)) (b : ℕ) (r : Rest) → AreTokens ts → step w ts b ≡ Some r → AreTokens r.1

@@ -9,6 +9,7 @@ use Rattle.std.proofs.lemmas.Fmt.{decimal_step, decimal_digit}
 use Rattle.text_shapes.specs.Reach.{IsToken, common, is_digit, reach}
 use Rattle.text_shapes.specs.Readers.{Falls, Skips, Stands}
 use Rattle.text_shapes.specs.Tokens.{IsNumber, IsSpace, is_space}
+use Rattle.text_shapes.proofs.Elements.{All-push}
 use Rattle.text_shapes.proofs.ReachLemmas.{over_space}
 
 -- the bytes from one place to another
@@ -19,10 +20,6 @@ pub record Spaces (bytes : List ℕ) (at next : ℕ) : Type 0 where
   pub within : next ≤ length bytes
   pub sum : next ≡ at + length space
 
-All-push : (xs : List ℕ) (x : ℕ) → AllByRecursion IsSpace xs → IsSpace x → AllByRecursion IsSpace (xs ++ x ∷ [])
-All-push [] x h i = (i, tt)
-All-push (y ∷ xs) x h i = (h.0, All-push xs x h.1 i)
-
 pub Spaces-none : (bytes : List ℕ) (at : ℕ) → at ≤ length bytes → Spaces bytes at at
 Spaces-none bytes at h = record { space = []; blank = tt; split = refl; within = h; sum = omega arith }
 
@@ -31,7 +28,7 @@ Spaces-more bytes at next h lt s =
     let b = get_or bytes next 0 in
     record {
       space = h.space ++ b ∷ [];
-      blank = All-push h.space b h.blank s;
+      blank = All-push IsSpace h.space b h.blank s;
       split = h.split ∙ ap (λ (x : List ℕ). h.space ++ x) (drop_more bytes next 0 lt) ∙ sym (append_assoc h.space (b ∷ []) (drop (next + 1) bytes));
       within = omega arith;
       sum = omega (arith, length-append h.space (b ∷ []), h.sum);
@@ -167,7 +164,7 @@ word_stands bytes at next word s e =
     }
 
 pub word_falls : (bytes : List ℕ) (at next : ℕ) (word : List ℕ) → IsToken word → Skips bytes at next → (common word (drop next bytes) ≡ length word → ⊥) → Falls bytes at word (next + common word (drop next bytes))
-word_falls bytes at next [] t s ne = absurd (t tt)
+word_falls bytes at next [] t s ne = absurd t
 word_falls bytes at next (c ∷ w) t s ne =
     record {
       within = omega (arith, s.within, common-bound (c ∷ w) (drop next bytes), length-drop next bytes);

@@ -34,10 +34,10 @@ word_byte_no_space b h =
 step_nothing : (w : List ℕ) (ts : List (List ℕ)) (b : ℕ) (bs : List ℕ) → step w ts b ≡ None → reach w ts (b ∷ bs) ≡ 0
 step_nothing w ts b bs e = reach-cons w ts b bs ∙ rw e refl
 
--- where marks come next, a letter or a digit ends it
+-- where a mark comes next, or nothing, no letter and no digit goes on
 marked_ends : (ts : List (List ℕ)) (b : ℕ) (bs : List ℕ) → IsMarked ts → is_word_byte b ≡ true → reach [] ts (b ∷ bs) ≡ 0
-marked_ends [] b bs h e = absurd (h tt)
-marked_ends ([] ∷ ts) b bs h e = absurd (h tt)
+marked_ends [] b bs h e = reach-cons [] [] b bs ∙ rw (word_byte_no_space b e) refl
+marked_ends ([] ∷ ts) b bs h e = absurd h
 marked_ends ((c ∷ w) ∷ ts) b bs h e =
     let ne : b ≡ c → ⊥ = λ same. let no : false ≡ true = sym h ∙ (ap is_word_byte (sym same) ∙ e) in absurd cc in
     reach-cons [] ((c ∷ w) ∷ ts) b bs ∙ rw (word_byte_no_space b e, ne_eqb b c ne) refl

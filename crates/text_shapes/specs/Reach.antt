@@ -8,7 +8,9 @@
 --                                "PD[]" it is 2, and for "PD[]" itself 5, one past the end
 --     common word bytes          how many first bytes of a word the bytes have
 --     IsToken, IsWord            what a token is, and one of letters and digits
-use Rattle.std.specs.Prelude.{◌≡◌, ℕ, suc, ◌+◌, ◌<◌, Bool, true, false, cond, ◌==◌, ◌&&◌, ◌||◌, nat_le, List, [], ◌∷◌, length, drop, Option, Some, None, ⊤}
+--     IsMarked tokens            a mark comes next, or nothing: it ends a word before it
+--     BeginsUnclosed tokens      something comes that is told from the mark that closes a list
+use Rattle.std.specs.Prelude.{◌≡◌, ℕ, suc, ◌+◌, ◌<◌, Bool, true, false, cond, ◌==◌, ◌&&◌, ◌||◌, nat_le, List, [], ◌∷◌, length, drop, Option, Some, None}
 use Rattle.std.specs.List.{AllByRecursion}
 use Rattle.text_shapes.specs.Tokens.{is_space}
 
@@ -48,7 +50,7 @@ place bytes at tokens = at + reach [] tokens (drop at bytes)
 
 -- a token has a byte, and begins with none of white space
 abbrev pub IsToken : List ℕ → Type 0
-IsToken [] = ⊤ → ⊥
+IsToken [] = ⊥
 IsToken (c ∷ token) = is_space c ≡ false
 
 abbrev pub AreTokens : List (List ℕ) → Type 0
@@ -74,14 +76,18 @@ is_word_byte byte = is_digit byte || is_letter byte
 abbrev pub IsWord : List ℕ → Type 0
 IsWord word = (0 < length word) × AllByRecursion (λ byte. is_word_byte byte ≡ true) word
 
--- a token comes that begins with no letter and no digit
+-- no letter and no digit comes next: a token that begins with neither, or none
 abbrev pub IsMarked : List (List ℕ) → Type 0
-IsMarked [] = ⊤ → ⊥
-IsMarked ([] ∷ tokens) = ⊤ → ⊥
+IsMarked [] = Unit {0}
+IsMarked ([] ∷ tokens) = ⊥
 IsMarked ((c ∷ token) ∷ tokens) = is_word_byte c ≡ false
 
--- the tokens begin with a letter
-abbrev pub BeginsWithLetter : List (List ℕ) → Type 0
-BeginsWithLetter [] = ⊤ → ⊥
-BeginsWithLetter ([] ∷ tokens) = ⊤ → ⊥
-BeginsWithLetter ((c ∷ token) ∷ tokens) = is_letter c ≡ true
+-- a mark that closes a list: the bracket or the brace
+abbrev pub is_closing : ℕ → Bool
+is_closing byte = byte == 93 || byte == 125
+
+-- the tokens begin, and with none of these
+abbrev pub BeginsUnclosed : List (List ℕ) → Type 0
+BeginsUnclosed [] = ⊥
+BeginsUnclosed ([] ∷ tokens) = ⊥
+BeginsUnclosed ((c ∷ token) ∷ tokens) = is_closing c ≡ false

@@ -6,11 +6,11 @@
 --     Stands bytes at token next       white space and the token stand from at on, up to next
 --     Falls bytes at token p           they don't: it is at p that the bytes differ from the token
 --     LongestNumber bytes at n next    the longest number that begins at at is n, and ends at next
---     TokenFound, TokenMissed          a token of a family stands, or none does
 --     Found, Missed                    the tokens of a value stand, or those of none do
 --     Accepts, Refuses                 the same of all the bytes
+--     IsReadable fits tokens           from each place of all bytes one or the other can be told
 --     LeadsTo                          what may stand from one place on is what may from another
-use Rattle.std.specs.Prelude.{◌≡◌, ℕ, ◌+◌, ◌<◌, ◌≤◌, ◌⊎◌, false, cond, ◌==◌, List, ◌∷◌, ◌++◌, length, drop, slice_index, decimal}
+use Rattle.std.specs.Prelude.{◌≡◌, ℕ, ◌+◌, ◌-◌, ◌<◌, ◌≤◌, ◌⊎◌, false, cond, ◌==◌, List, ◌∷◌, ◌++◌, length, drop, slice_index, decimal}
 use Rattle.std.specs.List.{AllByRecursion}
 use Rattle.text_shapes.specs.Tokens.{is_space, IsSpace, IsNumber}
 use Rattle.text_shapes.specs.Shapes.{call}
@@ -54,36 +54,22 @@ BeginsNoNumber bytes at = at < length bytes → (is_digit (slice_index bytes at)
 abbrev pub separator_of : ℕ → ℕ
 separator_of i = cond (i == 0) 91 44
 
--- ---- a token of a family
-
-module _ {A : Type 0} (fits : A → Type 0) (token : A → List ℕ) (bytes : List ℕ) (at : ℕ) where
-  -- the token of a stands behind white space, up to next, and each other breaks off before, where a mark comes behind it
-  pub record TokenFound (a : A) (next : ℕ) : Type 0 where
-    pub fits_kind : fits a
-    pub from : at ≤ next
-    pub within : next ≤ length bytes
-    pub same : (more : List (List ℕ)) → place bytes at (token a ∷ more) ≡ place bytes next more
-    pub others : (b : A) (more : List (List ℕ)) → fits b → IsMarked more → (b ≡ a) ⊎ (place bytes at (token b ∷ more) ≤ next)
-
-  -- each breaks off at p
-  pub record TokenMissed (p : ℕ) : Type 0 where
-    pub within : p ≤ length bytes
-    pub same : (b : A) (more : List (List ℕ)) → fits b → place bytes at (token b ∷ more) ≡ p
-
 -- a call with any other head breaks off before next
-abbrev pub OtherHeadsStop : {A : Type 0} → (A → List ℕ) → List ℕ → ℕ → List ℕ → ℕ → Type 0
-OtherHeadsStop {A} token bytes at head next = (other : List ℕ) (all : List A) (more : List (List ℕ)) → IsWord other → (other ≡ head → ⊥) → place bytes at (call token other all ++ more) ≤ next
+abbrev pub OtherHeadsStop : {A : Type 0} → (A → List (List ℕ)) → List ℕ → ℕ → List ℕ → ℕ → Type 0
+OtherHeadsStop {A} tokens bytes at head next = (other : List ℕ) (all : List A) (more : List (List ℕ)) → IsWord other → (other ≡ head → ⊥) → place bytes at (call tokens other all ++ more) ≤ next
 
 -- ---- a value of a shape
 
 module _ {V : Type 0} (fits : V → Type 0) (tokens : V → List (List ℕ)) (bytes : List ℕ) (at : ℕ) where
-  -- the tokens of the value stand from at on up to next, and those of each other value break off before
+  -- the tokens of the value stand from at on up to next, where the last one ends, and those of each other
+  -- value break off before, where a mark comes behind them
   pub record Found (value : V) (next : ℕ) : Type 0 where
     pub fits_shape : fits value
-    pub from : at ≤ next
+    pub from : at < next
+    pub ends : is_space (slice_index bytes (next - 1)) ≡ false
     pub within : next ≤ length bytes
     pub same : (more : List (List ℕ)) → place bytes at (tokens value ++ more) ≡ place bytes next more
-    pub others : (other : V) (more : List (List ℕ)) → fits other → (other ≡ value) ⊎ (place bytes at (tokens other ++ more) ≤ next)
+    pub others : (other : V) (more : List (List ℕ)) → fits other → IsMarked more → (other ≡ value) ⊎ (place bytes at (tokens other ++ more) ≤ next)
 
   -- each breaks off, and p is where the one does that goes on furthest
   pub record Missed (p : ℕ) : Type 0 where
@@ -109,6 +95,20 @@ module _ {V : Type 0} (fits : V → Type 0) (tokens : V → List (List ℕ)) (by
     pub fits_shape : fits furthest
     pub reached : p ≤ place bytes 0 (tokens furthest)
     pub most : (value : V) → fits value → place bytes 0 (tokens value) ≤ p
+
+-- ---- what can be read for sure
+
+-- the tokens of a value stand from at on, or those of none do
+abbrev pub ValueRead : {V : Type 0} → (V → Type 0) → (V → List (List ℕ)) → List ℕ → ℕ → Type 0
+ValueRead {V} fits tokens bytes at = ((v : V) × (next : ℕ) × Found fits tokens bytes at v next) ⊎ ((p : ℕ) × Missed fits tokens bytes at p)
+
+-- the bytes are a text of one value and of no other, or of none
+abbrev pub TextRead : {V : Type 0} → (V → Type 0) → (V → List (List ℕ)) → List ℕ → Type 0
+TextRead {V} fits tokens bytes = ((v : V) × Accepts fits tokens bytes v) ⊎ ((p : ℕ) × Refuses fits tokens bytes p)
+
+-- a value can be read from each place of all bytes: by a reader that doesn't fail for want of memory
+abbrev pub IsReadable : {V : Type 0} → (V → Type 0) → (V → List (List ℕ)) → Type 0
+IsReadable fits tokens = (bytes : List ℕ) (at : ℕ) → at ≤ length bytes → ValueRead fits tokens bytes at
 
 -- ---- parts of a value
 

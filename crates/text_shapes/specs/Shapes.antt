@@ -6,8 +6,10 @@
 --     BeginsText fits tokens bytes           they are the beginning of some text of the shape
 --     IsLongestBeginning fits tokens bytes at   at is the length of the longest front of the bytes
 --                                               that is the beginning of some text of the shape
---     call token head arguments              head[a,..,a]
---     bracketed item values                  [v,..,v], and items_behind item values is ,v,..,v]
+--     call tokens head arguments             head[a,..,a]
+--     listed item head values                head[v,..,v]
+--     items_inside close item values         v,..,v and the mark that closes, and items_behind the same with a
+--                                            comma before each
 use Rattle.std.specs.Prelude.{ℕ, ◌≤◌, List, [], ◌∷◌, ◌++◌, length, take, codes}
 use Rattle.text_shapes.specs.Tokens.{IsSpelled}
 
@@ -26,12 +28,12 @@ module _ {V : Type 0} (fits : V → Type 0) (tokens : V → List (List ℕ)) whe
     pub begins : BeginsText (take at bytes)
     pub longest : (n : ℕ) → n ≤ length bytes → BeginsText (take n bytes) → n ≤ at
 
--- head[a,..,a], where token spells an argument
-module _ {A : Type 0} (token : A → List ℕ) where
+-- head[a,..,a], where tokens spells an argument
+module _ {A : Type 0} (tokens : A → List (List ℕ)) where
   -- a mark, then each argument with a comma between two, and the bracket that closes
   abbrev pub arguments : List ℕ → List A → List (List ℕ)
   arguments mark [] = codes "]" ∷ []
-  arguments mark (a ∷ rest) = mark ∷ token a ∷ arguments (codes ",") rest
+  arguments mark (a ∷ rest) = mark ∷ (tokens a ++ arguments (codes ",") rest)
 
   abbrev pub call : List ℕ → List A → List (List ℕ)
   call head all = head ∷ arguments (codes "[") all
@@ -43,20 +45,17 @@ AreOf fits [] (a ∷ rest) = ⊥
 AreOf fits (kind ∷ kinds) [] = ⊥
 AreOf fits (kind ∷ kinds) (a ∷ rest) = fits kind a × AreOf fits kinds rest
 
--- [v,..,v], where item spells a value
-module _ {V : Type 0} (item : V → List (List ℕ)) where
-  -- what comes behind a value: a comma and the next one, or the bracket that closes
+-- v,..,v and the mark that closes, where item spells a value
+module _ {V : Type 0} (close : ℕ) (item : V → List (List ℕ)) where
+  -- what comes behind a value: a comma and the next one, or the mark that closes
   abbrev pub items_behind : List V → List (List ℕ)
-  items_behind [] = codes "]" ∷ []
+  items_behind [] = (close ∷ []) ∷ []
   items_behind (v ∷ rest) = codes "," ∷ (item v ++ items_behind rest)
 
   abbrev pub items_inside : List V → List (List ℕ)
-  items_inside [] = codes "]" ∷ []
+  items_inside [] = (close ∷ []) ∷ []
   items_inside (v ∷ rest) = item v ++ items_behind rest
 
-  abbrev pub bracketed : List V → List (List ℕ)
-  bracketed all = codes "[" ∷ items_inside all
-
-  -- head[v,..,v]
-  abbrev pub listed : List ℕ → List V → List (List ℕ)
-  listed head all = head ∷ bracketed all
+-- head[v,..,v]
+abbrev pub listed : {V : Type 0} → (V → List (List ℕ)) → List ℕ → List V → List (List ℕ)
+listed item head all = head ∷ codes "[" ∷ items_inside 93 item all

@@ -6,10 +6,14 @@
 --     IsSpelled tokens bytes   the bytes are these tokens, one after the other
 --     IsNumber n               n has one to six decimal digits, the first of them not 0
 --     IsNumeral digits n       the digits are one to six, the first not 0, and spell n in decimal
+--     number_tokens n          the one token that spells n
 --
--- The bytes of "[ 12 ]" are spelled by the tokens "[", "12" and "]", and by no others.
-use Rattle.std.specs.Prelude.{◌≡◌, ◌≢◌, ℕ, ◌<◌, ◌≤◌, Bool, true, ◌==◌, ◌||◌, List, [], ◌∷◌, ◌++◌, length, slice_index}
+-- The bytes of "[ 12 ]" are spelled by the tokens "[", "12" and "]", and also by "[", "1", "2" and "]", since
+-- white space between tokens may be none. In a shape of text a mark stands behind each number, so that its
+-- values are told apart.
+use Rattle.std.specs.Prelude.{◌≡◌, ◌≢◌, ℕ, ◌<◌, ◌≤◌, Bool, true, ◌==◌, ◌||◌, List, [], ◌∷◌, ◌++◌, length, slice_index, decimal}
 use Rattle.std.specs.List.{AllByRecursion}
+use Rattle.std.proofs.Common.{lit<}
 use Rattle.std.specs.Str.Parse.{AllDigits, digits_value}
 
 -- the space, the tab, the carriage return or the line feed
@@ -29,9 +33,15 @@ pub record IsNumber (n : ℕ) : Type 0 where
   pub low : 0 < n
   pub high : n < 1000000
 
+pub one_is_a_number : IsNumber 1
+one_is_a_number = record { low = lit< tt; high = lit< tt }
+
+abbrev pub number_tokens : ℕ → List (List ℕ)
+number_tokens n = decimal n ∷ []
+
 -- the same of the digits: these are the decimal digits of a number
 pub record IsNumeral (digits : List ℕ) (n : ℕ) : Type 0 where
-  pub decimal : AllDigits 10 digits
+  pub are_digits : AllDigits 10 digits
   pub some : 0 < length digits
   pub at_most_six : length digits ≤ 6
   pub first_is_not_zero : slice_index digits 0 ≢ 48

@@ -26,8 +26,8 @@ use Rattle.pd_reader.specs.declared.fault.TextFault.TheVariants as texts
 use Rattle.pd_reader.specs.Items.{item_labels}
 use Rattle.pd_reader.specs.Diagrams as diagrams
 use Rattle.pd_reader.specs.Texts.{IsPdText}
-use Rattle.pd_reader.specs.Answers.{IsPdRefusal}
-use Rattle.pd_reader.specs.Faults.{NamesByte}
+use Rattle.pd_reader.specs.Refusals.{IsPdRefusal}
+use Rattle.pd_reader.specs.Faults.{IsNamed, cause}
 use Rattle.pd_reader.specs.Torus.{torus_items}
 use Rattle.planar_check.specs.declared.fault.PlanarFault.{PlanarFault}
 use Rattle.planar_check.specs.declared.fault.PlanarFault.TheVariants as planar
@@ -109,7 +109,7 @@ reads_input (asks p request) = is_about_input request.task
 -- The bytes are a text of these items of a diagram, or they are refused for that fault.
 abbrev pub IsReading : List ℕ → Result (List Item) TextFault → Type 0
 IsReading bytes (Ok items) = IsPdText bytes items × (diagrams.refusal item_labels items ≡ None)
-IsReading bytes (Err fault) = (fault ≢ texts.Memory) × IsPdRefusal bytes fault × NamesByte bytes fault
+IsReading bytes (Err fault) = (fault ≢ texts.Memory) × IsPdRefusal bytes fault × IsNamed bytes (cause fault)
 
 -- The bytes are refused for a fault of their text, or memory was wanting.
 abbrev pub IsTextRefusal : List ℕ → Refusal → Type 0

@@ -6,5 +6,5 @@ use Rattle.pd_reader.proofs.call.read_call.Given as goal
 abbrev pub invariant-loop-i : goal.invariant-loop-i
 invariant-loop-i g l = record {
   left : drop l.i l.slots ≡ drop l.i l.fn.slots;
-  read : ArgsSoFar g.A.Argument.token g.A.Argument.is_of_kind l.bytes l.at l.head l.fn.slots (drop l.i l.fn.slots) (take l.i l.slots) l.i l.place;
+  read : ArgsSoFar g.A.Argument.tokens g.A.Argument.is_of_kind l.bytes l.at l.head l.fn.slots (drop l.i l.fn.slots) (take l.i l.slots) l.i l.place;
 }

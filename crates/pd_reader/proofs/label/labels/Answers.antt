@@ -1,6 +1,7 @@
 use Rattle.std.proofs.Common.{◌≡◌, ◌+◌, ap, sym, ◌∙◌, ◌++◌, ◌∷◌, [], take, arith}
 use Rattle.std.proofs.lemmas.List.{take_more}
-use Rattle.pd_reader.proofs.ItemLabels.{labels-push, All-push}
+use Rattle.text_shapes.proofs.Elements.{All-push}
+use Rattle.pd_reader.proofs.ItemLabels.{labels-push}
 use Rattle.pd_reader.proofs.label.labels.Goals as goal
 
 pub loop-item-preserved : goal.loop-item-preserved

@@ -10,7 +10,8 @@ abbrev pub invariant-loop-at : goal.invariant-loop-at
 invariant-loop-at g l = record {
   read : List g.row.I.Denot;
   grown : l.items.items ≡ l.fn.items.items ++ read;
-  leads : LeadsTo (AllByRecursion g.I.TextItem.fits) (items_behind g.I.TextItem.tokens) (AllByRecursion g.I.TextItem.fits) (items_behind g.I.TextItem.tokens) (λ rest. read ++ rest) l.bytes l.fn.at l.next;
+  leads : LeadsTo (AllByRecursion g.I.TextItem.fits) (items_behind l.close g.I.TextItem.tokens) (AllByRecursion g.I.TextItem.fits) (items_behind l.close g.I.TextItem.tokens) (λ rest. read ++ rest) l.bytes l.fn.at l.next;
+  fit : AllByRecursion g.I.TextItem.fits read;
   stop : IsStop l.bytes l.next;
 }
 

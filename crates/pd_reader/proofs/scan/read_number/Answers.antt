@@ -1,5 +1,5 @@
 use Rattle.text_shapes.proofs.Numbers.{number_found, number_missed}
-use Rattle.pd_reader.proofs.call.U32Argument.read.Goals as goal
+use Rattle.pd_reader.proofs.scan.read_number.Goals as goal
 
 pub returns-in-Some-clause-ok : goal.returns-in-Some-clause-ok
 returns-in-Some-clause-ok c = number_found c.args.bytes.now c.args.at c.skip-start.result c.in-Some.found.0 c.in-Some.found.1 c.skip-start.ensures c.in-Some.ensures.some
