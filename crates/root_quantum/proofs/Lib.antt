@@ -1,5 +1,7 @@
-mod QuantumSteps
+pub mod QuantumSteps
 mod TwistSteps
 pub mod LawProofs
+pub mod EqualParameters
+pub mod GreatestColours
 pub mod RefusalProofs
 mod Examples

@@ -1,13 +1,31 @@
 -- What the calls on a ring give, step by step, are the residues of the definitions.
-use Rattle.std.proofs.Common.{◌≡◌, ◌+◌, ◌<◌, ℕ, ℤ, pos, ◌+ℤ◌, ◌-ℤ◌, ◌*ℤ◌, neg_ℤ, [], ◌∷◌, refl, sym, ap, ◌∙◌, arith, add-one}
+use Rattle.std.proofs.Common.{◌≡◌, ◌+◌, ◌*◌, ◌%◌, ◌<◌, ℕ, ℤ, pos, ◌+ℤ◌, ◌-ℤ◌, ◌*ℤ◌, neg_ℤ, [], ◌∷◌, refl, sym, ap, ◌∙◌, arith, add-one, inl, inr, mod-eq_of_lt}
+use Rattle.std.proofs.Math.Nat.{add-mul-mod_self_right}
 use Rattle.ring_identities.specs.Residues.{residue}
+use Rattle.ring_identities.specs.Powers.{IsUnity}
 use Rattle.ring_identities.proofs.Congruences.{residue_small}
+use Rattle.ring_identities.proofs.LawProofs.{unity_at_multiples}
 use Rattle.ring_identities.proofs.Modulo.{modulos, by_residues}
+use Rattle.root_quantum.specs.Forms.{HasOrder}
 use Rattle.root_quantum.specs.Parameters.{Parameters}
+use Rattle.root_quantum.specs.declared.form.Form.{Form}
+use Rattle.root_quantum.specs.declared.form.Form.TheVariants.{All, Even}
 use Rattle.root_quantum.specs.QuantumNumbers.{inverse_root, loop_value, quantum_number, delta}
 
 pub modulus_positive : (p : Parameters) → 0 < p.modulus
 modulus_positive p = omega (arith, p.meets.modulus)
+
+-- A^(4r) is 1 in either form: where the order is 2r, 4r is a multiple of it
+unity_of : (form : Form) (m a r : ℕ) → 1 < m → HasOrder form m a r → IsUnity m a (4 * r)
+unity_of All m a r many order = order.unity
+unity_of Even m a r many (inl order) = order.unity
+unity_of Even m a r many (inr order) =
+    let twice : 4 * r ≡ 0 + 2 * (2 * r) = omega arith in
+    let divides : (4 * r) % (2 * r) ≡ 0 = ap (λ k. k % (2 * r)) twice ∙ add-mul-mod_self_right 0 2 (2 * r) ∙ mod-eq_of_lt (order.positive) in
+    (unity_at_multiples m a (2 * r) (4 * r) many order).1 divides
+
+pub whole_unity : (p : Parameters) → IsUnity p.modulus p.root (4 * p.level)
+whole_unity p = unity_of p.form p.modulus p.root p.level (omega (arith, p.meets.modulus)) p.meets.order
 
 -- delta from A^2 and A^-2
 pub loop_value_steps : (p : Parameters) (inverse square inverse_square sum value : ℕ)

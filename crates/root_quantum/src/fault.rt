@@ -1,4 +1,4 @@
-// Why three numbers are no parameters.
+//! Why three numbers are no parameters.
 
 /// The first of the conditions on m, A and r that fails, in the order in which they stand here.
 #[derive(Clone, Copy, Debug, PartialEq, Eq)]
@@ -9,6 +9,9 @@ pub enum ParamFault {
     Root,
     /// r is outside 3 to 10.
     Level,
-    /// The least t from 1 to 4r with A^t = 1 modulo m isn't 4r: it is `found`, or there is none.
+    /// r is even, where the form wants it odd: in the even form alone.
+    EvenLevel,
+    /// The least t from 1 to 4r with A^t = 1 modulo m isn't 4r, and in the even form isn't 2r either: it is
+    /// `found`, or there is none.
     Order { found: Option<u32> },
 }

@@ -1,5 +1,5 @@
-// Laws over the definitions alone, for all parameters: functions with empty bodies, each with its theorem.
-ghost use Rattle.root_quantum.specs.Laws.{RootTimesInverse, LoopValue, DeltaFirst, DeltaNext, DeltaSquare, TwistNone, TwistOne, TwistSum, Accepted, Refused};
+//! Laws over the definitions alone, for all parameters: functions with empty bodies, each with its theorem.
+ghost use Rattle.root_quantum.specs.Laws.{RootTimesInverse, LoopValue, DeltaFirst, DeltaNext, DeltaSquare, TwistNone, TwistOne, TwistSum, Accepted, Refused, EqualParameters, GreatestOfColours};
 
 /// A times A^-1 is 1.
 pub fn root_times_inverse()
@@ -41,7 +41,17 @@ pub fn twist_sum()
     ensures { TwistSum }
 {}
 
-/// The refusal that computes is none exactly where m, A and r are parameters.
+/// Two values are equal exactly where m, A, r and the form are.
+pub fn equal_parameters()
+    ensures { EqualParameters }
+{}
+
+/// The greatest colour of the form is one of its colours, none is greater, and it is a colour of projectors.
+pub fn greatest_of_colours()
+    ensures { GreatestOfColours }
+{}
+
+/// The refusal that computes is none exactly where m, A and r are parameters of the form.
 pub fn accepted()
     ensures { Accepted }
 {}

@@ -1,4 +1,5 @@
-// Parameters m, A and r, checked once.
+//! Parameters m, A and r, checked once.
+
 ghost use Rattle.std.specs.Prelude.{◌≡◌, ◌<◌, ◌≤◌, ◌^◌, ◌*◌, ◌↔◌, ℕ, pos, IfOk, IfErr, IsOk};
 ghost use Rattle.std.specs.Int.{IsGcd};
 ghost use Rattle.ring_identities.specs.Residues.{residue};
@@ -9,18 +10,21 @@ ghost use Rattle.root_quantum.specs.declared.fault.ParamFault.{ParamFault};
 ghost use Rattle.root_quantum.specs.QuantumNumbers.{inverse_root, loop_value, delta, twist_factor, twist};
 
 use crate::fault::ParamFault;
+use crate::form::Form;
 use residue_ring::{Common, OutOfRange, Ring};
 use std::marker::Model;
 
-/// A modulus m from 2 to 2^62 - 1, a number A of order 4r modulo m, and r from 3 to 10.
+/// A modulus m from 2 to 2^62 - 1, a number A of order 4r modulo m, and r from 3 to 10; in the even form r is
+/// odd, and the order is 4r or 2r.
 ///
-/// Two values are equal exactly where their m, A and r are.
+/// Two values are equal exactly where their m, A, r and form are (law `equal_parameters`).
 #[derive(Clone, Copy, Debug, PartialEq, Eq)]
 pub struct Params {
     ring: Ring,
     root: u64,
     level: u32,
-    ghost meets: { IsParameters ring root level } by { IsParameters-prop ring root level },
+    form: Form,
+    ghost meets: { IsParameters form ring root level } by { IsParameters-prop form ring root level },
 }
 
 impl Model for Params {
@@ -31,20 +35,41 @@ impl Model for Params {
     ghost coded = { parameters_code };
 
     ghost view = { λ params.
-        record { modulus = params.ring; root = params.root; level = params.level; meets = params.meets } };
+        record { modulus = params.ring; root = params.root; level = params.level; form = params.form; meets = params.meets } };
 
-    ghost inverse = { λ p. record { ring = p.modulus; root = p.root; level = p.level; meets = p.meets } };
+    ghost inverse = { λ p. record { ring = p.modulus; root = p.root; level = p.level; form = p.form; meets = p.meets } };
 }
 
 impl Params {
-    /// The parameters m, A and r.
+    /// The parameters m, A and r in the full form: the order of A modulo m is 4r.
     ///
     /// The refusals are tried in the order of `ParamFault`, and each comes exactly where it holds:
-    /// 13, 3, 3 is refused for the order 3.
+    /// 13, 3, 3 is refused for the order 3. `EvenLevel` never comes.
     pub fn new(m: u64, a: u64, r: u32) -> Result<Self, ParamFault>
-        ensures made { IfOk result (λ p. (p.modulus ≡ m) × (p.root ≡ a) × (p.level ≡ r)) }
-        ensures succeeds { IsOk result ↔ IsParameters m a r }
-        ensures refused { (fault : ParamFault) → (result ≡ Err fault) ↔ IsRefused m a r fault }
+        ensures made { IfOk result (λ p. (p.modulus ≡ m) × (p.root ≡ a) × (p.level ≡ r) × (p.form ≡ Form.All)) }
+        ensures succeeds { IsOk result ↔ IsParameters Form.All m a r }
+        ensures refused { (fault : ParamFault) → (result ≡ Err fault) ↔ IsRefused Form.All m a r fault }
+    {
+        Params::of_form(m, a, r, Form::All)
+    }
+
+    /// The parameters m, A and r in the even form: r is odd, and the order of A modulo m is 4r or 2r. So
+    /// 11, 2, 5 is accepted, where the order is 10.
+    ///
+    /// The refusals are tried in the order of `ParamFault`, and each comes exactly where it holds:
+    /// 41, 6, 10 is refused for the level, and 13, 3, 3 for the order 3.
+    pub fn new_even(m: u64, a: u64, r: u32) -> Result<Self, ParamFault>
+        ensures made { IfOk result (λ p. (p.modulus ≡ m) × (p.root ≡ a) × (p.level ≡ r) × (p.form ≡ Form.Even)) }
+        ensures succeeds { IsOk result ↔ IsParameters Form.Even m a r }
+        ensures refused { (fault : ParamFault) → (result ≡ Err fault) ↔ IsRefused Form.Even m a r fault }
+    {
+        Params::of_form(m, a, r, Form::Even)
+    }
+
+    // The parameters of a form.
+    fn of_form(m: u64, a: u64, r: u32, form: Form) -> Result<Self, ParamFault>
+        ensures made { IfOk result (λ p. (p.modulus ≡ m) × (p.root ≡ a) × (p.level ≡ r) × (p.form ≡ form)) }
+        ensures refused { IfErr result (IsRefused form m a r) }
     {
         let ring = match Ring::new(m) {
             Ok(ring) => ring,
@@ -56,14 +81,18 @@ impl Params {
         if r < 3 || r > 10 {
             return Err(ParamFault::Level);
         }
+        if !form.takes_level(r) {
+            return Err(ParamFault::EvenLevel);
+        }
         let found = ring.order(a, 4 * r);
-        if found != Some(4 * r) {
+        if !form.takes_order(r, found) {
             return Err(ParamFault::Order { found });
         }
         Ok(Params {
             ring,
             root: a,
             level: r,
+            form,
         })
     }
 
@@ -86,6 +115,13 @@ impl Params {
         ensures { result ≡ self.now.level }
     {
         self.level
+    }
+
+    /// The form: `Form::All` after `new`, `Form::Even` after `new_even`.
+    pub fn form(&self) -> Form
+        ensures { result ≡ self.now.form }
+    {
+        self.form
     }
 
     /// A^-1, the residue of A^(4r-1).
@@ -174,7 +210,7 @@ impl Params {
         self.ring.inverse(self.delta(n))
     }
 
-    /// The greatest colour, the smaller of r - 1 and 8.
+    /// The greatest colour of a projector, the smaller of r - 1 and 8.
     pub fn top_colour(&self) -> u32
         ensures { result ≡ top_colour self.now }
     {

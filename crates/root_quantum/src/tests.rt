@@ -54,8 +54,33 @@ fn worked_rows(rt: HostRuntime) -> Result<(), Fail> {
         (41, 2, 2, ParamFault::Level),
         (13, 3, 3, ParamFault::Order { found: Some(3) }),
         (41, 6, 5, ParamFault::Order { found: None }),
+        (11, 2, 5, ParamFault::Order { found: Some(10) }),
     ] {
         assert_eq!(rt; Params::new(m, a, r), Err(fault), "at {m} {a} {r}");
+    }
+    Ok(())
+}
+
+// The even form: 2 has order 10 modulo 11 and order 20 modulo 41.
+#[test]
+fn even_rows(rt: HostRuntime) -> Result<(), Fail> {
+    let params = Params::new_even(11, 2, 5)?;
+    assert_eq!(rt; params.form(), Form::Even);
+    assert_eq!(rt; [params.root_inverse(), params.loop_value()], [6, 4]);
+    assert_eq!(rt; deltas(&params), [1, 4, 4, 1, 0]);
+
+    let full = Params::new(41, 2, 5)?;
+    let even = Params::new_even(41, 2, 5)?;
+    assert_eq!(rt; full.form(), Form::All);
+    assert!(rt; full != even && even == Params::new_even(41, 2, 5)?);
+
+    for (m, a, r, fault) in [
+        (41, 6, 10, ParamFault::EvenLevel),
+        (13, 3, 3, ParamFault::Order { found: Some(3) }),
+        (41, 6, 5, ParamFault::Order { found: None }),
+        (41, 2, 11, ParamFault::Level),
+    ] {
+        assert_eq!(rt; Params::new_even(m, a, r), Err(fault), "at {m} {a} {r}");
     }
     Ok(())
 }

@@ -11,6 +11,7 @@ use Rattle.root_quantum.specs.Parameters.{Parameters}
 use Rattle.root_quantum.specs.Refusals.{refusal}
 use Rattle.root_quantum.specs.QuantumNumbers.{inverse_root, loop_value}
 use Rattle.root_quantum.proofs.RefusalProofs.{accepted_law}
+use Rattle.root_quantum.specs.declared.form.Form.TheVariants.{All}
 use Rattle.pd_reader.specs.Torus.{torus_items}
 use Rattle.pd_reader.specs.declared.item.Item.{Item}
 use Rattle.pd_reader.specs.declared.item.Item.TheVariants.{X, Loop}
@@ -31,12 +32,12 @@ use Rattle.wrt_commands.specs.declared.refusal.Refusal.TheVariants.{WordsRefused
 use Rattle.wrt_commands.specs.Outcomes.{ended, asks, done, refused, opening, with_parameters, outcome_of, diagram_outcome}
 use Rattle.wrt_commands.proofs.ParametersLemmas.{made_law}
 
-no_refusal : refusal 41 2 5 ≡ None
+no_refusal : refusal All 41 2 5 ≡ None
 unfolding refusal order_up_to power residue
 no_refusal = refl
 
 worked : Parameters
-worked = record { modulus = 41; root = 2; level = 5; meets = (accepted_law 41 2 5).1 no_refusal }
+worked = record { modulus = 41; root = 2; level = 5; form = All; meets = (accepted_law All 41 2 5).1 no_refusal }
 
 -- what is asked for at 41, 2, 5
 abbrev asked : Task → OrderWord → Bool → Request
@@ -51,11 +52,11 @@ spaced = slice_split (λ b. b == 32)
 
 bracket_words : opening (spaced (codes "bracket 41 2 5")) ≡ asks worked plain
 unfolding words_on_literals request_on_literals worked
-bracket_words = ap (with_parameters plain) (sym (made_law (record { modulus = 41; root = 2; level = 5 }) worked refl refl refl))
+bracket_words = ap (with_parameters plain) (sym (made_law (record { modulus = 41; root = 2; level = 5 }) worked refl refl refl refl))
 
 torus_words : opening (spaced (codes "torus 2 41 2 5 --turns --order=greedy")) ≡ asks worked (asked (Torus 2) Greedy true)
 unfolding words_on_literals request_on_literals worked
-torus_words = ap (with_parameters (asked (Torus 2) Greedy true)) (sym (made_law (record { modulus = 41; root = 2; level = 5 }) worked refl refl refl))
+torus_words = ap (with_parameters (asked (Torus 2) Greedy true)) (sym (made_law (record { modulus = 41; root = 2; level = 5 }) worked refl refl refl refl))
 
 few_words : opening (spaced (codes "bracket 41")) ≡ ended (Words (Takes 3))
 unfolding words_on_literals request_on_literals

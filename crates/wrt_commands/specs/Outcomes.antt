@@ -14,6 +14,7 @@
 -- At 41, 2, 5 the reading of the trefoil comes to the report "10" and a line feed, and with the turns to "turns 10" in a line
 -- behind it (proofs/Examples.antt).
 use Rattle.std.specs.Prelude.{◌≡◌, ◌≢◌, ◌⊎◌, ℕ, ◌-◌, ◌*◌, ◌^◌, ◌<◌, ◌≤◌, min, if◌then◌else◌, Bool, true, false, count_by, List, length, Option, Some, None, Result, Ok, Err, refl}
+use Rattle.root_quantum.specs.declared.form.Form.TheVariants.{All}
 use Rattle.root_quantum.specs.Parameters.{Parameters}
 use Rattle.root_quantum.specs.Refusals as conditions
 use Rattle.root_quantum.specs.declared.fault.ParamFault.{ParamFault}
@@ -56,21 +57,22 @@ use Rattle.wrt_commands.specs.Sweeping.{sweep}
 abbrev pub level_of : Numbers → ℕ
 level_of numbers = min numbers.level (2 ^ 32 - 1)
 
--- The reason against numbers, by the reason against them as parameters.
+-- The reason against numbers, by the reason against them as parameters of the full form, which takes even levels.
 abbrev pub against_parameters : ℕ → ParamFault → ParametersFault
 against_parameters level against.Modulus = parameters.Modulus
 against_parameters level against.Root = parameters.Root
 against_parameters level against.Level = parameters.Level
+against_parameters level against.EvenLevel = parameters.Level
 against_parameters level (against.Order found) = parameters.Order found (4 * level)
 
 -- The parameters of numbers, or the reason against them, by the judgement on the numbers.
-abbrev pub judged : (m a r : ℕ) (judgement : Option ParamFault) → conditions.refusal m a r ≡ judgement → Result Parameters ParametersFault
-judged m a r None none = Ok (record { modulus = m; root = a; level = r; meets = (accepted_law m a r).1 none })
+abbrev pub judged : (m a r : ℕ) (judgement : Option ParamFault) → conditions.refusal All m a r ≡ judgement → Result Parameters ParametersFault
+judged m a r None none = Ok (record { modulus = m; root = a; level = r; form = All; meets = (accepted_law All m a r).1 none })
 judged m a r (Some fault) some = Err (against_parameters r fault)
 
 -- The parameters that the numbers are, or the first reason against them.
 unfoldable pub parameters_of : Numbers → Result Parameters ParametersFault
-parameters_of numbers = judged numbers.modulus numbers.root (level_of numbers) (conditions.refusal numbers.modulus numbers.root (level_of numbers)) refl
+parameters_of numbers = judged numbers.modulus numbers.root (level_of numbers) (conditions.refusal All numbers.modulus numbers.root (level_of numbers)) refl
 
 -- What words come to before the input is read: a refusal, or what they ask for at these parameters.
 pub data Opening : Type 0 where

@@ -52,6 +52,8 @@ pub fn read_parameters(numbers: &Numbers) -> Result<Params, ParametersFault>
         Err(ParamFault::Modulus) => Err(ParametersFault::Modulus),
         Err(ParamFault::Root) => Err(ParametersFault::Root),
         Err(ParamFault::Level) => Err(ParametersFault::Level),
+        // The full form takes even levels too, so this one never comes.
+        Err(ParamFault::EvenLevel) => Err(ParametersFault::Level),
         Err(ParamFault::Order { found }) => Err(ParametersFault::Order {
             found,
             wanted: 4 * level.min(10),

@@ -1,5 +1,6 @@
 use Rattle.std.proofs.Common.{◌≡◌, ◌∙◌, ◌*◌, min, sym, ap, Err, arith}
 use Rattle.root_quantum.specs.Refusals.{IsRefused}
+use Rattle.root_quantum.specs.declared.form.Form.TheVariants.{All}
 use Rattle.root_quantum.specs.declared.fault.ParamFault.TheVariants as against
 use Rattle.wrt_commands.specs.declared.parameters.ParametersFault.TheVariants.{Order}
 use Rattle.wrt_commands.specs.Outcomes.{level_of}
@@ -11,7 +12,7 @@ returns-in-Ok c =
     let numbers = c.args.numbers.now in
     let level = c.unwrap_or-level.ensures ∙ level_law c.try_from.result numbers.level c.try_from.ensures in
     let made = c.in-Ok.ensures.made in
-    made_law numbers c.in-Ok.params made.0 made.1 (made.2 ∙ level)
+    made_law numbers c.in-Ok.params made.0 made.1 (made.2 ∙ level) made.3
 
 pub returns-in-Err-Modulus : goal.returns-in-Err-Modulus
 returns-in-Err-Modulus c =
@@ -34,12 +35,19 @@ returns-in-Err-Level c =
     let h = (c.in-Err-Level.ensures.refused against.Level).0 (ap Err c.in-Err-Level.field-0-is) in
     refused_parameters numbers against.Level (rw (sym level) h)
 
+pub returns-in-Err-EvenLevel : goal.returns-in-Err-EvenLevel
+returns-in-Err-EvenLevel c =
+    let numbers = c.args.numbers.now in
+    let level = c.unwrap_or-level.ensures ∙ level_law c.try_from.result numbers.level c.try_from.ensures in
+    let h = (c.in-Err-EvenLevel.ensures.refused against.EvenLevel).0 (ap Err c.in-Err-EvenLevel.field-0-is) in
+    refused_parameters numbers against.EvenLevel (rw (sym level) h)
+
 pub returns-in-Err-Order : goal.returns-in-Err-Order
 returns-in-Err-Order c =
     let numbers = c.args.numbers.now in
     let level = c.unwrap_or-level.ensures ∙ level_law c.try_from.result numbers.level c.try_from.ensures in
     let fault = against.Order c.in-Err-Order.found in
     let h = (c.in-Err-Order.ensures.refused fault).0 (ap Err c.in-Err-Order.field-0-is) in
-    let h : IsRefused numbers.modulus numbers.root (level_of numbers) fault = rw (sym level) h in
+    let h : IsRefused All numbers.modulus numbers.root (level_of numbers) fault = rw (sym level) h in
     let small : min c.unwrap_or-level.result 10 ≡ level_of numbers = omega (arith, level, h.2) in
     ap (λ l. Err (Order c.in-Err-Order.found (4 * l))) (c.min.ensures ∙ small) ∙ refused_parameters numbers fault h
