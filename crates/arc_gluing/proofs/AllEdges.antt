@@ -5,10 +5,10 @@ use Rattle.std.proofs.lemmas.Bool.{eq-eqb, or_left, or_right}
 use Rattle.std.proofs.lemmas.Bool.Decides.{nat_tests}
 use Rattle.arc_gluing.proofs.OneEdge as step
 use Rattle.graph_parts.proofs.Counting.{label_count-relabel, label_count-joined, distinct_count-cons, is_member-map}
-use Rattle.graph_parts.specs.Ends.{EndsAre}
+use Rattle.graph_parts.specs.Ends.{EndsAre, ends_of}
 use Rattle.graph_parts.specs.Labels.{relabel, label_after, label_count}
 use Rattle.list_lemmas.specs.Times.{times_in}
-use Rattle.arc_gluing.specs.Mates.{joined_mates, closes, mates_after, loops_after, ends_of, IsMated}
+use Rattle.arc_gluing.specs.Mates.{joined_mates, closes, mates_after, loops_after, IsMated}
 use Rattle.graph_parts.proofs.Through.{member_label}
 use Rattle.list_lemmas.proofs.Times.{times_of_member, member_of_times, times_in-pair}
 

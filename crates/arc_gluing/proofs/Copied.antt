@@ -10,10 +10,11 @@ use Rattle.list_lemmas.proofs.Times.{times_of_member, member_of_times, times_in-
 use Rattle.graph_parts.proofs.Ends.{is_member-get_or}
 use Rattle.graph_parts.specs.Labels.{label_of, label_count}
 use Rattle.state_sums.specs.Networks.{IsPairing}
-use Rattle.arc_gluing.specs.Mates.{mates_after, ends_of, pairs_below, IsMated}
+use Rattle.arc_gluing.specs.Mates.{mates_after, pairs_below, IsMated}
 use Rattle.arc_gluing.specs.Seams.{IsLeft}
 use Rattle.list_lemmas.proofs.Items.{member_at}
 use Rattle.list_lemmas.specs.Times.{times_in}
+use Rattle.graph_parts.specs.Ends.{ends_of}
 
 -- mates that are equal where it counts serve as well
 pub IsMated-same : (times mate other label : ℕ → ℕ) → IsMated times mate label → ((x : ℕ) → 1 ≤ times x → other x ≡ mate x) → IsMated times other label

@@ -17,11 +17,11 @@ use Rattle.arc_gluing.proofs.PointPairs.{times_in-pairs}
 use Rattle.graph_parts.proofs.Agreement.{label_count-agree, eqb_from_iff}
 use Rattle.graph_parts.proofs.Distinct.{is_member-append}
 use Rattle.graph_parts.proofs.Ends.{EndsAre-append, EndsAre-weaker, is_member-get_or}
-use Rattle.graph_parts.specs.Ends.{EndsAre}
+use Rattle.graph_parts.specs.Ends.{EndsAre, ends_of}
 use Rattle.graph_parts.specs.Labels.{label_of, label_after, label_count, Agree}
 use Rattle.graph_parts.specs.Patterns.{label_closed}
 use Rattle.state_sums.specs.Networks.{IsPairing}
-use Rattle.arc_gluing.specs.Mates.{mates_after, loops_after, ends_of, pairs_below, IsMated, IsPairedLabels}
+use Rattle.arc_gluing.specs.Mates.{mates_after, loops_after, pairs_below, IsMated, IsPairedLabels}
 use Rattle.arc_gluing.specs.Pairings.{pair_edges}
 use Rattle.arc_gluing.specs.Seams.{IsLeft}
 use Rattle.list_lemmas.proofs.Times.{times_of_member}

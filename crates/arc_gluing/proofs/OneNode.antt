@@ -12,12 +12,12 @@ use Rattle.arc_gluing.proofs.Glued.{EndsAre-pair_edges}
 use Rattle.arc_gluing.proofs.Through.{label_closed-pairing, IsPairedLabels-through}
 use Rattle.graph_parts.proofs.Distinct.{is_member-append}
 use Rattle.graph_parts.proofs.Ends.{EndsAre-append, EndsAre-weaker, is_member-get_or}
-use Rattle.graph_parts.specs.Ends.{EndsAre}
+use Rattle.graph_parts.specs.Ends.{EndsAre, ends_of}
 use Rattle.graph_parts.specs.Patterns.{label_closed}
 use Rattle.state_sums.specs.Networks.{IsPairing}
 use Rattle.graph_parts.specs.Labels.{label_of}
 use Rattle.arc_gluing.proofs.Copied.{stepped}
-use Rattle.arc_gluing.specs.Mates.{mates_after, pairs_below, ends_of, IsMated, IsPairedLabels, label_partners}
+use Rattle.arc_gluing.specs.Mates.{mates_after, pairs_below, IsMated, IsPairedLabels, label_partners}
 use Rattle.arc_gluing.specs.Pairings.{pair_edges, AreOpen}
 use Rattle.arc_gluing.specs.Seams.{IsLeft, place_in}
 use Rattle.list_lemmas.specs.Times.{times_in}

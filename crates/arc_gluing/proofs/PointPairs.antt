@@ -5,9 +5,10 @@ use Rattle.std.proofs.lemmas.Bool.{eq-eqb, eqb-true, cases_Bool}
 use Rattle.std.proofs.lemmas.Bool.Decides.{nat_tests}
 use Rattle.std.proofs.lemmas.List.Sums.{sum_by-cons}
 use Rattle.state_sums.specs.Networks.{IsPairing}
-use Rattle.arc_gluing.specs.Mates.{ends_of, pairs_below}
+use Rattle.arc_gluing.specs.Mates.{pairs_below}
 use Rattle.list_lemmas.specs.Times.{times_in}
 use Rattle.list_lemmas.proofs.Times.{times_in-append}
+use Rattle.graph_parts.specs.Ends.{ends_of}
 
 -- the sum of f over the numbers below n
 abbrev pub sum_below : (ℕ → ℕ) → ℕ → ℕ

@@ -9,7 +9,7 @@ use Rattle.std.proofs.lemmas.List.{map-append}
 use Rattle.std.proofs.lemmas.List.FromFn.{length-range_with_len, get_or-range_with_len}
 use Rattle.graph_parts.proofs.Distinct.{is_member-append}
 use Rattle.graph_parts.proofs.Ends.{is_member-get_or}
-use Rattle.graph_parts.specs.Ends.{EndsAre}
+use Rattle.graph_parts.specs.Ends.{EndsAre, ends_of}
 use Rattle.graph_parts.specs.Patterns.{label_closed}
 use Rattle.graph_parts.specs.Renaming.{renamed}
 use Rattle.state_sums.specs.Networks.{IsPairing}
@@ -20,7 +20,7 @@ use Rattle.graph_parts.specs.Labels.{label_of}
 use Rattle.graph_parts.specs.Patterns.{closed_parts}
 use Rattle.graph_parts.proofs.Numbered.{is_member-numbered, numbered-member}
 use Rattle.graph_parts.proofs.PatternLabels.{closed_parts-labels}
-use Rattle.arc_gluing.specs.Mates.{mates_after, loops_after, ends_of, pairs_below, IsMated, IsPairedLabels}
+use Rattle.arc_gluing.specs.Mates.{mates_after, loops_after, pairs_below, IsMated, IsPairedLabels}
 use Rattle.arc_gluing.specs.Pairings.{pair_edges, IsPairedBy, partners_of}
 use Rattle.arc_gluing.specs.Seams.{IsLeft, AreSlots, IsSeam}
 use Rattle.list_lemmas.specs.Times.{times_in}

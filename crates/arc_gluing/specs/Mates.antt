@@ -6,7 +6,6 @@
 --     joined_mates mate edge       the mates after one more edge
 --     mates_after mate edges       the mates after these edges
 --     loops_after mate edges       how many loops these edges close
---     ends_of edges                the ends of the edges, in order
 --     pairs_below names partner i  the pairs whose lower point is below i, each once
 --     IsMated times mate label     each name that is still to come, as often as `times` says, knows the other end of its path
 --     IsPairedLabels edges names partner    the partner of each name is the other one with its label
@@ -34,11 +33,6 @@ mates_after mate edges = fold joined_mates mate edges
 abbrev pub loops_after : (ℕ → ℕ) → List (ℕ × ℕ) → ℕ
 loops_after mate [] = 0
 loops_after mate (edge ∷ edges) = closes mate edge + loops_after (joined_mates mate edge) edges
-
--- The ends of the edges, in order.
-abbrev pub ends_of : List (ℕ × ℕ) → List ℕ
-ends_of [] = []
-ends_of (edge ∷ edges) = edge.0 ∷ edge.1 ∷ ends_of edges
 
 -- The pairs whose lower point is below i, each once.
 abbrev pub pairs_below : List ℕ → List ℕ → ℕ → List (ℕ × ℕ)

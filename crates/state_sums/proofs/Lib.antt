@@ -9,10 +9,7 @@ pub mod GluedSums
 pub mod DisjointSums
 pub mod NodeNames
 pub mod NodeOrder
-pub mod Arcs
-pub mod Moves
 pub mod WrittenNodes
-pub mod Turned
 pub mod Cuts
 pub mod NetworkLaws
 mod Examples

@@ -52,15 +52,15 @@ total-exchange (node ∷ front) nodes f =
     ∙ total-sum_by (λ term. term.weight) (λ term fs. total front (λ es. f (term_edges node term ++ es) fs)) node.terms nodes
 
 -- ---- the same edges and names in another order
-exchanged : (es fs gs : List (ℕ × ℕ)) (x y : ℕ) → Contains (es ++ (fs ++ gs)) (x, y) → Contains (fs ++ (es ++ gs)) (x, y) ⊎ Contains (fs ++ (es ++ gs)) (y, x)
-exchanged es fs gs x y c =
+pub exchanged_edges : (es fs gs : List (ℕ × ℕ)) (x y : ℕ) → Contains (es ++ (fs ++ gs)) (x, y) → Contains (fs ++ (es ++ gs)) (x, y) ⊎ Contains (fs ++ (es ++ gs)) (y, x)
+exchanged_edges es fs gs x y c =
     let e : ℕ × ℕ = (x, y) in
     inl (⊎_elim
     (λ l. Contains-append_right fs (es ++ gs) e (Contains-append_left es gs e l))
     (λ r. ⊎_elim (λ l. Contains-append_left fs (es ++ gs) e l) (λ s. Contains-append_right fs (es ++ gs) e (Contains-append_right es gs e s)) (Contains-append_cases fs gs e r))
     (Contains-append_cases es (fs ++ gs) e c))
 
-same_members : (xs ys zs : List ℕ) (x : ℕ) → is_member ◌==◌ (xs ++ (ys ++ zs)) x ≡ is_member ◌==◌ (ys ++ (xs ++ zs)) x
+pub same_members : (xs ys zs : List ℕ) (x : ℕ) → is_member ◌==◌ (xs ++ (ys ++ zs)) x ≡ is_member ◌==◌ (ys ++ (xs ++ zs)) x
 same_members xs ys zs x =
     let a = is_member-append xs (ys ++ zs) x in let b = is_member-append ys zs x in let c = is_member-append ys (xs ++ zs) x in let d = is_member-append xs zs x in
     grind (arith, a, b, c, d)
@@ -69,45 +69,43 @@ label_count-exchange : (es fs gs : List (ℕ × ℕ)) (xs ys zs : List ℕ) → 
 label_count-exchange es fs gs xs ys zs =
     let names = xs ++ (ys ++ zs) in
     label_count-agree (is_member ◌==◌ names) (label_of (es ++ (fs ++ gs))) (label_of (fs ++ (es ++ gs))) names
-    (Agree-same_edges (is_member ◌==◌ names) (es ++ (fs ++ gs)) (fs ++ (es ++ gs)) (exchanged es fs gs) (exchanged fs es gs)) (is_member-itself names)
+    (Agree-same_edges (is_member ◌==◌ names) (es ++ (fs ++ gs)) (fs ++ (es ++ gs)) (exchanged_edges es fs gs) (exchanged_edges fs es gs)) (is_member-itself names)
     ∙ label_count-same_names (label_of (fs ++ (es ++ gs))) names (ys ++ (xs ++ zs)) (same_members xs ys zs)
 
-names_of-three : (xs ys zs : List Node) → names_of (xs ++ (ys ++ zs)) ≡ names_of xs ++ (names_of ys ++ names_of zs)
+pub names_of-three : (xs ys zs : List Node) → names_of (xs ++ (ys ++ zs)) ≡ names_of xs ++ (names_of ys ++ names_of zs)
 names_of-three xs ys zs = flat_map-append (λ node. node.ends) xs (ys ++ zs) ∙ ap (λ ns. names_of xs ++ ns) (flat_map-append (λ node. node.ends) ys zs)
 
 -- the state sum by labels
 abbrev pub label_sum : ℕ → ℕ → List Node → ℕ
 label_sum delta free nodes = total nodes (λ es. delta ^ (label_count (label_of es) (names_of nodes) + free))
 
-module _ (delta free : ℕ) where
-  abbrev S : List Node → ℕ
-  S nodes = label_sum delta free nodes
+-- a run of nodes moves to the front
+pub label_sum-moved : (delta free : ℕ) (front nodes back : List Node) → label_sum delta free (front ++ (nodes ++ back)) ≡ label_sum delta free (nodes ++ (front ++ back))
+label_sum-moved delta free front nodes back =
+    let one : List (ℕ × ℕ) → ℕ = λ es. delta ^ (label_count (label_of es) (names_of (front ++ (nodes ++ back))) + free) in
+    let other : List (ℕ × ℕ) → ℕ = λ es. delta ^ (label_count (label_of es) (names_of (nodes ++ (front ++ back))) + free) in
+    total-append front (nodes ++ back) one
+    ∙ total_cong front _ _ (λ es. total-append nodes back (λ fs. one (es ++ fs)))
+    ∙ total-exchange front nodes (λ es fs. total back (λ gs. one (es ++ (fs ++ gs))))
+    ∙ total_cong nodes _ _ (λ fs. total_cong front _ _ (λ es. total_cong back _ _ (λ gs. ap (λ n. delta ^ (n + free))
+    (ap (label_count (label_of (es ++ (fs ++ gs)))) (names_of-three front nodes back)
+    ∙ label_count-exchange es fs gs (names_of front) (names_of nodes) (names_of back)
+    ∙ ap (label_count (label_of (fs ++ (es ++ gs)))) (sym (names_of-three nodes front back))))))
+    ∙ sym (total_cong nodes _ _ (λ fs. total-append front back (λ es. other (fs ++ es))))
+    ∙ sym (total-append nodes (front ++ back) other)
 
-  -- A RUN OF NODES MOVES TO THE FRONT
-  pub label_sum-moved : (front nodes back : List Node) → S (front ++ (nodes ++ back)) ≡ S (nodes ++ (front ++ back))
-  label_sum-moved front nodes back =
-      let one : List (ℕ × ℕ) → ℕ = λ es. delta ^ (label_count (label_of es) (names_of (front ++ (nodes ++ back))) + free) in
-      let other : List (ℕ × ℕ) → ℕ = λ es. delta ^ (label_count (label_of es) (names_of (nodes ++ (front ++ back))) + free) in
-      total-append front (nodes ++ back) one
-      ∙ total_cong front _ _ (λ es. total-append nodes back (λ fs. one (es ++ fs)))
-      ∙ total-exchange front nodes (λ es fs. total back (λ gs. one (es ++ (fs ++ gs))))
-      ∙ total_cong nodes _ _ (λ fs. total_cong front _ _ (λ es. total_cong back _ _ (λ gs. ap (λ n. delta ^ (n + free))
-      (ap (label_count (label_of (es ++ (fs ++ gs)))) (names_of-three front nodes back)
-      ∙ label_count-exchange es fs gs (names_of front) (names_of nodes) (names_of back)
-      ∙ ap (label_count (label_of (fs ++ (es ++ gs)))) (sym (names_of-three nodes front back))))))
-      ∙ sym (total_cong nodes _ _ (λ fs. total-append front back (λ es. other (fs ++ es))))
-      ∙ sym (total-append nodes (front ++ back) other)
-
+-- ---- what a run of nodes that moves to the front keeps, any order keeps
+module _ {X : Type 0} (F : List Node → X) (moved : (front nodes back : List Node) → F (front ++ (nodes ++ back)) ≡ F (nodes ++ (front ++ back))) where
   -- ---- two nodes in each other's place
-  both_to_front : (a : List Node) (x : Node) (b : List Node) (y : Node) (c : List Node) → S (a ++ x ∷ (b ++ y ∷ c)) ≡ S (y ∷ x ∷ (a ++ (b ++ c)))
+  both_to_front : (a : List Node) (x : Node) (b : List Node) (y : Node) (c : List Node) → F (a ++ x ∷ (b ++ y ∷ c)) ≡ F (y ∷ x ∷ (a ++ (b ++ c)))
   both_to_front a x b y c =
-      label_sum-moved a (x ∷ []) (b ++ y ∷ c)
-      ∙ ap (λ ns. S (x ∷ ns)) (sym (append_assoc a b (y ∷ c)))
-      ∙ label_sum-moved (x ∷ (a ++ b)) (y ∷ []) c
-      ∙ ap (λ ns. S (y ∷ x ∷ ns)) (append_assoc a b c)
+      moved a (x ∷ []) (b ++ y ∷ c)
+      ∙ ap (λ ns. F (x ∷ ns)) (sym (append_assoc a b (y ∷ c)))
+      ∙ moved (x ∷ (a ++ b)) (y ∷ []) c
+      ∙ ap (λ ns. F (y ∷ x ∷ ns)) (append_assoc a b c)
 
-  swapped : (a : List Node) (x : Node) (b : List Node) (y : Node) (c : List Node) → S (a ++ x ∷ (b ++ y ∷ c)) ≡ S (a ++ y ∷ (b ++ x ∷ c))
-  swapped a x b y c = both_to_front a x b y c ∙ label_sum-moved (y ∷ []) (x ∷ []) (a ++ (b ++ c)) ∙ sym (both_to_front a y b x c)
+  swapped : (a : List Node) (x : Node) (b : List Node) (y : Node) (c : List Node) → F (a ++ x ∷ (b ++ y ∷ c)) ≡ F (a ++ y ∷ (b ++ x ∷ c))
+  swapped a x b y c = both_to_front a x b y c ∙ moved (y ∷ []) (x ∷ []) (a ++ (b ++ c)) ∙ sym (both_to_front a y b x c)
 
   -- what stands before and after a place
   record Around (nodes : List Node) (j : ℕ) (d : Node) : Type 0 where
@@ -123,29 +121,32 @@ module _ (delta free : ℕ) where
       let r = around nodes j d (omega (arith, l)) in
       record { before = x ∷ r.before; after = r.after; is = ap (λ ns. x ∷ ns) r.is; put = λ z. ap (λ ns. x ∷ ns) (r.put z) }
 
-  set_both : (front nodes : List Node) (i j : ℕ) (d : Node) → i < length nodes → j < length nodes → S (front ++ nodes) ≡ S (front ++ set (set nodes i (get_or nodes j d)) j (get_or nodes i d))
+  set_both : (front nodes : List Node) (i j : ℕ) (d : Node) → i < length nodes → j < length nodes → F (front ++ nodes) ≡ F (front ++ set (set nodes i (get_or nodes j d)) j (get_or nodes i d))
   set_both front [] i j d h l = absurd (omega (arith, l))
   set_both front (x ∷ nodes) zero zero d h l = refl
   set_both front (x ∷ nodes) zero (suc j) d h l =
       let r = around nodes j d (omega (arith, l)) in
       let y = get_or nodes j d in
-      ap (λ ns. S (front ++ x ∷ ns)) r.is ∙ swapped front x r.before y r.after ∙ ap (λ ns. S (front ++ y ∷ ns)) (sym (r.put x))
+      ap (λ ns. F (front ++ x ∷ ns)) r.is ∙ swapped front x r.before y r.after ∙ ap (λ ns. F (front ++ y ∷ ns)) (sym (r.put x))
   set_both front (x ∷ nodes) (suc i) zero d h l =
       let r = around nodes i d (omega (arith, h)) in
       let y = get_or nodes i d in
-      ap (λ ns. S (front ++ x ∷ ns)) r.is ∙ swapped front x r.before y r.after ∙ ap (λ ns. S (front ++ y ∷ ns)) (sym (r.put x))
+      ap (λ ns. F (front ++ x ∷ ns)) r.is ∙ swapped front x r.before y r.after ∙ ap (λ ns. F (front ++ y ∷ ns)) (sym (r.put x))
   set_both front (x ∷ nodes) (suc i) (suc j) d h l =
       let ih = set_both (front ++ x ∷ []) nodes i j d (omega (arith, h)) (omega (arith, l)) in
-      ap S (sym (append_assoc front (x ∷ []) nodes)) ∙ ih ∙ ap S (append_assoc front (x ∷ []) (set (set nodes i (get_or nodes j d)) j (get_or nodes i d)))
+      ap F (sym (append_assoc front (x ∷ []) nodes)) ∙ ih ∙ ap F (append_assoc front (x ∷ []) (set (set nodes i (get_or nodes j d)) j (get_or nodes i d)))
 
-  swap_sum : (nodes : List Node) (i j : ℕ) → i < length nodes → j < length nodes → S (swap nodes i j) ≡ S nodes
-  swap_sum [] i j p q = refl
-  swap_sum (d ∷ nodes) i j p q = sym (set_both [] (d ∷ nodes) i j d p q)
+  swap_kept : (nodes : List Node) (i j : ℕ) → i < length nodes → j < length nodes → F (swap nodes i j) ≡ F nodes
+  swap_kept [] i j p q = refl
+  swap_kept (d ∷ nodes) i j p q = sym (set_both [] (d ∷ nodes) i j d p q)
+
+  pub kept_in_any_order : (nodes permuted : List Node) → IsPermutation nodes permuted → F permuted ≡ F nodes
+  kept_in_any_order nodes permuted h = IsPermutation-keeps nodes (λ ns. F ns ≡ F nodes) refl (λ ns i j a b t. swap_kept ns i j a b ∙ t) permuted h
 
 -- ANY ORDER
 pub state_sum-permuted : (delta free : ℕ) (nodes permuted : List Node) → HavePlaces nodes → IsPermutation nodes permuted →
     state_sum delta record { nodes = permuted; free_loops = free } ≡ state_sum delta record { nodes = nodes; free_loops = free }
 state_sum-permuted delta free nodes permuted p h =
     state_sum-labels delta permuted free (All-permutation HasPlaces nodes permuted h p)
-    ∙ IsPermutation-keeps nodes (λ ns. label_sum delta free ns ≡ label_sum delta free nodes) refl (λ ns i j a b t. swap_sum delta free ns i j a b ∙ t) permuted h
+    ∙ kept_in_any_order (label_sum delta free) (label_sum-moved delta free) nodes permuted h
     ∙ sym (state_sum-labels delta nodes free p)

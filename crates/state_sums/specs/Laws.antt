@@ -1,9 +1,9 @@
 -- The laws of state sums. They carry everything above that cuts, glues, renames or rewrites networks.
-use Rattle.std.specs.Prelude.{◌≡◌, ℕ, ◌+◌, ◌*◌, ◌%◌, ◌^◌, ◌≤◌, ◌==◌, true, false, List, [], ◌∷◌, ◌++◌, map, IsPermutation}
+use Rattle.std.specs.Prelude.{◌≡◌, ℕ, ◌+◌, ◌*◌, ◌%◌, ◌^◌, ◌≤◌, ◌==◌, true, false, List, [], ◌++◌, map, IsPermutation}
 use Rattle.std.specs.List.{All, AllPass}
 use Rattle.std.specs.Set.{is_member}
-use Rattle.graph_parts.specs.Renaming.{IsOneToOne, replaced}
-use Rattle.state_sums.specs.LocalSums.{pattern_sum, rest_sum, SameEverywhere, IsCut, open_of, rename, arc, weighted_arc, crossing, AreSkeinNumbers}
+use Rattle.graph_parts.specs.Renaming.{IsOneToOne}
+use Rattle.state_sums.specs.LocalSums.{pattern_sum, rest_sum, SameEverywhere, IsCut, open_of, rename}
 use Rattle.state_sums.specs.Networks.{Node, Network, IsNode, names_of}
 use Rattle.state_sums.specs.StateSums.{value}
 use Rattle.list_lemmas.specs.Times.{times_in}
@@ -31,12 +31,6 @@ DisjointNetworksLaw =
     ((x : ℕ) → is_member ◌==◌ (names_of nodes) x ≡ true → is_member ◌==◌ (names_of others) x ≡ false) →
     value m delta record { nodes = nodes ++ others; free_loops = free + more }
     ≡ value m delta record { nodes = nodes; free_loops = free } * value m delta record { nodes = others; free_loops = more } % m
-
--- An arc between two names makes them one: y in the place of x. Read backwards, it cuts a name in two.
-abbrev pub ArcLaw : Type 0
-ArcLaw =
-    (m delta free x y : ℕ) (rest : List Node) → All IsNode rest → is_member ◌==◌ (names_of rest) x ≡ true → is_member ◌==◌ (names_of rest) y ≡ true →
-    value m delta record { nodes = arc x y ∷ rest; free_loops = free } ≡ value m delta record { nodes = rename (replaced x y) rest; free_loops = free }
 
 -- Where no name stands three times, the names that stand once in the nodes cut them off from the rest.
 abbrev pub CutAtOpenNamesLaw : Type 0
@@ -96,53 +90,3 @@ AnywhereLaw =
     SameEverywhere m delta open_names old new →
     value m delta record { nodes = rename new_name old.nodes ++ rest; free_loops = old.free_loops + more }
     ≡ value m delta record { nodes = rename new_name new.nodes ++ rest; free_loops = new.free_loops + more }
-
--- A crossing turned by a quarter, with its weights exchanged, is the same crossing, wherever it stands and whatever its names.
-abbrev pub QuarterTurnLaw : Type 0
-QuarterTurnLaw =
-    (m delta a b w x y z free : ℕ) (front back : List Node) (open_names : List ℕ) → All IsNode front → All IsNode back →
-    AllPass (is_member ◌==◌ (names_of (front ++ crossing a b w x y z ∷ back))) open_names →
-    SameEverywhere m delta open_names record { nodes = front ++ crossing a b w x y z ∷ back; free_loops = free }
-    record { nodes = front ++ crossing b a x y z w ∷ back; free_loops = free }
-
--- The curl multiplies by -a^3: w is any number with w + a^3 = 0 modulo m.
---
---     0     1            0   1
---       \ /              |   |
---        \         =     '---'  times w
---       / \
---      '-2-'
-abbrev pub CurlLaw : Type 0
-CurlLaw =
-    (m a b delta w : ℕ) → AreSkeinNumbers m a b delta → (w + a * a * a) % m ≡ 0 % m →
-    SameEverywhere m delta (0 ∷ 1 ∷ []) record { nodes = crossing a b 1 0 2 2 ∷ []; free_loops = 0 } record { nodes = weighted_arc w 0 1 ∷ []; free_loops = 0 }
-
--- The other curl, where 1 passes over, multiplies by -b^3.
-abbrev pub OtherCurlLaw : Type 0
-OtherCurlLaw =
-    (m a b delta w : ℕ) → AreSkeinNumbers m a b delta → (w + b * b * b) % m ≡ 0 % m →
-    SameEverywhere m delta (0 ∷ 1 ∷ []) record { nodes = crossing a b 2 1 0 2 ∷ []; free_loops = 0 } record { nodes = weighted_arc w 0 1 ∷ []; free_loops = 0 }
-
--- The second move: the strand from 0 by 4 to 1 is pulled off the strand from 3 by 5 to 2, over which it lies. With a and b
--- exchanged, and so by a quarter turn of both crossings, it is the mirror image, where it lies below.
---
---          0       1                0       1
---          |       |                '-------'
---     3 -- | --5-- | -- 2      =
---          |       |                3 ----- 2
---          '---4---'
-abbrev pub SecondMoveLaw : Type 0
-SecondMoveLaw =
-    (m a b delta : ℕ) → AreSkeinNumbers m a b delta →
-    SameEverywhere m delta (0 ∷ 1 ∷ 2 ∷ 3 ∷ []) record { nodes = crossing a b 5 0 3 4 ∷ crossing a b 2 1 5 4 ∷ []; free_loops = 0 }
-    record { nodes = arc 0 1 ∷ arc 2 3 ∷ []; free_loops = 0 }
-
--- The third move: of three strands, 0 to 3 lies above, 1 to 4 between and 2 to 5 below; the uppermost is moved over the
--- crossing of the other two. The bottom is 0 1 2, the top 5 4 3, from left to right. With a and b exchanged it is the mirror
--- image.
-abbrev pub ThirdMoveLaw : Type 0
-ThirdMoveLaw =
-    (m a b delta : ℕ) → AreSkeinNumbers m a b delta →
-    SameEverywhere m delta (0 ∷ 1 ∷ 2 ∷ 3 ∷ 4 ∷ 5 ∷ [])
-    record { nodes = crossing a b 6 0 1 7 ∷ crossing a b 8 7 2 3 ∷ crossing a b 5 6 8 4 ∷ []; free_loops = 0 }
-    record { nodes = crossing a b 6 1 2 7 ∷ crossing a b 5 0 6 8 ∷ crossing a b 4 8 7 3 ∷ []; free_loops = 0 }

@@ -1,6 +1,6 @@
 //! The laws of state sums: each function has an empty body, and its contract is the law. They are stated in `specs/Laws.antt`.
 
-ghost use Rattle.state_sums.specs.Laws.{NoNodesLaw, AnyOrderLaw, AnyNamesLaw, DisjointNetworksLaw, ArcLaw, CutAtOpenNamesLaw, GluedPieceLaw, ReplacementLaw, SameEverywhereLaw, AddedNodesLaw, LocalRenamingLaw, AnywhereLaw, QuarterTurnLaw, CurlLaw, OtherCurlLaw, SecondMoveLaw, ThirdMoveLaw};
+ghost use Rattle.state_sums.specs.Laws.{NoNodesLaw, AnyOrderLaw, AnyNamesLaw, DisjointNetworksLaw, CutAtOpenNamesLaw, GluedPieceLaw, ReplacementLaw, SameEverywhereLaw, AddedNodesLaw, LocalRenamingLaw, AnywhereLaw};
 
 /// A network with no node has one state, the empty one: its value is delta to the power of its free loops.
 pub fn no_nodes()
@@ -20,11 +20,6 @@ pub fn any_names()
 /// Two networks with no name in common have together the product of their values.
 pub fn disjoint_networks()
     ensures { DisjointNetworksLaw }
-{}
-
-/// An arc between two names makes them one; read backwards, it cuts a name in two.
-pub fn arc_joins()
-    ensures { ArcLaw }
 {}
 
 /// Where no name stands three times, the names that stand once in some nodes cut them off from the rest.
@@ -60,29 +55,4 @@ pub fn local_renaming()
 /// A local equality holds in every network at any names, one to one.
 pub fn anywhere()
     ensures { AnywhereLaw }
-{}
-
-/// A crossing turned by a quarter, with its weights exchanged, is the same crossing.
-pub fn quarter_turn()
-    ensures { QuarterTurnLaw }
-{}
-
-/// The first Reidemeister move: a curl multiplies by -a^3 (Lickorish, ch. 3).
-pub fn curl()
-    ensures { CurlLaw }
-{}
-
-/// The first Reidemeister move: the other curl multiplies by -b^3, where b is the inverse of a (Lickorish, ch. 3).
-pub fn other_curl()
-    ensures { OtherCurlLaw }
-{}
-
-/// The second Reidemeister move (Lickorish, ch. 3).
-pub fn second_move()
-    ensures { SecondMoveLaw }
-{}
-
-/// The third Reidemeister move (Lickorish, ch. 3).
-pub fn third_move()
-    ensures { ThirdMoveLaw }
 {}

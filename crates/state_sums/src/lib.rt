@@ -7,7 +7,6 @@
 mod laws;
 
 pub use laws::{
-    added_nodes, any_names, any_order, anywhere, arc_joins, curl, cut_at_open_names,
-    disjoint_networks, glued_piece, local_renaming, no_nodes, other_curl, quarter_turn,
-    replacement, same_everywhere, second_move, third_move,
+    added_nodes, any_names, any_order, anywhere, cut_at_open_names, disjoint_networks, glued_piece,
+    local_renaming, no_nodes, replacement, same_everywhere,
 };

@@ -1,0 +1,21 @@
+pub mod Alike
+pub mod OneNode
+pub mod Ungrouped
+pub mod OtherTerms
+pub mod PieceOrder
+pub mod ArcEdges
+pub mod Closing
+pub mod PairedPlaces
+pub mod TurnedEnds
+pub mod CrossingTurns
+pub mod NodesOfArcs
+pub mod RenamedNodes
+pub mod NameCounts
+pub mod MovedRuns
+pub mod PiecesAnywhere
+pub mod WrittenPieces
+pub mod CornerPieces
+pub mod PlainMoves
+pub mod ParameterNumbers
+pub mod ThirdMove
+mod Examples
