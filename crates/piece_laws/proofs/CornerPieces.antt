@@ -5,7 +5,7 @@ use Rattle.std.specs.List.{list_all}
 use Rattle.std.proofs.lemmas.List.Sums.{AllPass-from_list_all}
 use Rattle.std.specs.Set.{is_member}
 use Rattle.std.specs.Prelude.{◌==◌}
-use Rattle.state_sums.specs.LocalSums.{SameEverywhere, AreSkeinNumbers}
+use Rattle.state_sums.specs.LocalSums.{SameEverywhere}
 use Rattle.state_sums.specs.Networks.{Node, names_of}
 use Rattle.state_sums.proofs.Coefficients.{SameEverywhere-from_worth}
 use Rattle.state_sums.proofs.Congruent.{pow_0, pow_1, congruent_by}
@@ -14,6 +14,7 @@ use Rattle.state_sums.proofs.StateEdges.{has_places, HavePlaces-from_test}
 use Rattle.state_sums.proofs.Sums.{total}
 use Rattle.piece_laws.specs.Corners as piece
 use Rattle.piece_laws.specs.Corners.{of_nodes}
+use Rattle.piece_laws.proofs.SkeinEquations.{curl_equation, smoothings_cancel}
 use Rattle.piece_laws.specs.Laws.{CurlCornerLaw, BigonCornersLaw, TriangleCornersLaw}
 
 -- pieces that are alike by labels are alike everywhere
@@ -28,19 +29,13 @@ written_alike m delta open_names old new p q a b h =
     ∙ h worth
     ∙ sym (ap (λ n. n % m) (pattern_sum-labels delta new 0 open_names worth (HavePlaces-from_test new q) (AllPass-from_list_all (is_member ◌==◌ (names_of new)) open_names b))))
 
-cubed : (m a b delta : ℕ) → AreSkeinNumbers m a b delta → (a * delta + b + a * a * a) % m ≡ 0 % m
-cubed m a b delta numbers = congruent_by m _ _ 1 (a * b) (delta + a * a + b * b) 0 b a (sym numbers.inverse) numbers.loop (omega arith)
-
-vanishes : (m a b delta : ℕ) → AreSkeinNumbers m a b delta → (a * a + b * b + a * b * delta) % m ≡ 0 % m
-vanishes m a b delta numbers = congruent_by m _ _ (a * b) 1 (delta + a * a + b * b) 0 delta 1 numbers.inverse numbers.loop (omega arith)
-
 -- THE CURL
 pub curl_corner : CurlCornerLaw
 curl_corner m a b delta w numbers factor =
     written_alike m delta (0 ∷ 1 ∷ []) (piece.curl_corner a b) (piece.curl_arcs w) refl refl refl refl
     (λ worth.
     let plain = worth (0 ∷ 0 ∷ []) in
-    congruent_by m _ _ (a * delta + b + a * a * a) 0 0 (w + a * a * a) plain plain (cubed m a b delta numbers) (sym factor) (simp (pow_0, pow_1) (omega arith)))
+    congruent_by m _ _ (a * delta + b + a * a * a) 0 0 (w + a * a * a) plain plain (curl_equation m a b delta numbers) (sym factor) (simp (pow_0, pow_1) (omega arith)))
 
 -- THE BIGON
 pub bigon_corners : BigonCornersLaw
@@ -49,7 +44,7 @@ bigon_corners m a b delta numbers =
     (λ worth.
     let across = worth (0 ∷ 0 ∷ 2 ∷ 2 ∷ []) in
     let turned = worth (0 ∷ 1 ∷ 1 ∷ 0 ∷ []) in
-    congruent_by m _ _ (a * b) 1 (a * a + b * b + a * b * delta) 0 turned across numbers.inverse (vanishes m a b delta numbers) (simp (pow_0, pow_1) (omega arith)))
+    congruent_by m _ _ (a * b) 1 (a * a + b * b + a * b * delta) 0 turned across numbers.inverse (smoothings_cancel m a b delta numbers) (simp (pow_0, pow_1) (omega arith)))
 
 -- THE TRIANGLE
 pub triangle_corners : TriangleCornersLaw
@@ -58,6 +53,6 @@ triangle_corners m a b delta numbers =
     (λ worth.
     let low = worth (0 ∷ 0 ∷ 2 ∷ 2 ∷ 4 ∷ 4 ∷ []) in
     let high = worth (0 ∷ 1 ∷ 2 ∷ 0 ∷ 1 ∷ 2 ∷ []) in
-    let i = vanishes m a b delta numbers in
+    let i = smoothings_cancel m a b delta numbers in
     let q = a * a + b * b + a * b * delta in
     congruent_by m _ _ q 0 0 q (b * low) (b * high) i (sym i) (simp (pow_0, pow_1) (omega arith)))

@@ -34,7 +34,8 @@ quarters = record {
   again = below_four (λ i. next_slot (slot_before i) ≡ i) refl refl refl refl;
 }
 
-cycled : (w x y z u : ℕ) → is_member ◌==◌ (w ∷ x ∷ y ∷ z ∷ []) u ≡ is_member ◌==◌ (x ∷ y ∷ z ∷ w ∷ []) u
+-- the same names, begun at the second one
+pub cycled : (w x y z u : ℕ) → is_member ◌==◌ (w ∷ x ∷ y ∷ z ∷ []) u ≡ is_member ◌==◌ (x ∷ y ∷ z ∷ w ∷ []) u
 cycled w x y z u = grind arith
 
 -- A QUARTER TURN

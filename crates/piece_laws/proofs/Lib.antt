@@ -14,6 +14,7 @@ pub mod NameCounts
 pub mod MovedRuns
 pub mod PiecesAnywhere
 pub mod WrittenPieces
+pub mod SkeinEquations
 pub mod CornerPieces
 pub mod PlainMoves
 pub mod ParameterNumbers

@@ -1,6 +1,6 @@
 -- The order of a piece's nodes does not matter, and a piece may be replaced between other nodes: its sum over states, whatever the
 -- patterns are worth, stays where a run of nodes moves to the front.
-use Rattle.std.proofs.Common.{◌≡◌, true, ◌==◌, ℕ, ◌+◌, ◌%◌, List, ◌++◌, sym, ap, ◌∙◌, All, ⊎_elim}
+use Rattle.std.proofs.Common.{append_assoc, ◌≡◌, true, ◌==◌, ℕ, ◌+◌, ◌%◌, List, ◌++◌, sym, ap, ◌∙◌, All, ⊎_elim}
 use Rattle.std.specs.List.{AllPass}
 use Rattle.std.specs.Set.{is_member}
 use Rattle.std.proofs.lemmas.Bool.{or_left, or_right, or_cases}
@@ -48,6 +48,16 @@ permuted_piece m delta free nodes permuted open_names p h has =
     (λ u. sym (kept_in_any_order (λ ns. is_member ◌==◌ (names_of ns) u) (λ front run back. same_moved front run back u) nodes permuted h)) has
     (λ worth. ap (λ n. n % m) (sym (kept_in_any_order (counted delta free open_names worth) (counted-moved delta free open_names worth) nodes permuted h)))
 
+-- what a run that moves to the front keeps, two runs that change places keep
+exchanged_by : {X : Type 0} (F : List Node → X) → ((front nodes back : List Node) → F (front ++ (nodes ++ back)) ≡ F (nodes ++ (front ++ back))) →
+    (front one other back : List Node) → F (front ++ (one ++ (other ++ back))) ≡ F (front ++ (other ++ (one ++ back)))
+exchanged_by F moved front one other back =
+    ap F (sym (append_assoc front one (other ++ back))) ∙ moved (front ++ one) other back ∙ ap (λ ns. F (other ++ ns)) (append_assoc front one back) ∙ sym (moved front other (one ++ back))
+
+pub exchanged_members : (front one other back : List Node) (u : ℕ) →
+    is_member ◌==◌ (names_of (front ++ (one ++ (other ++ back)))) u ≡ is_member ◌==◌ (names_of (front ++ (other ++ (one ++ back)))) u
+exchanged_members front one other back u = exchanged_by (λ ns. is_member ◌==◌ (names_of ns) u) (λ f n b. same_moved f n b u) front one other back
+
 -- a run of nodes moves to the front
 pub run_to_front : (m delta free : ℕ) (open_names : List ℕ) (front nodes back : List Node) → All IsNode front → All IsNode nodes → All IsNode back →
     AllPass (is_member ◌==◌ (names_of (front ++ (nodes ++ back)))) open_names →
@@ -57,6 +67,17 @@ run_to_front m delta free open_names front nodes back p q r has =
     (All-append IsNode front (nodes ++ back) p (All-append IsNode nodes back q r)) (All-append IsNode nodes (front ++ back) q (All-append IsNode front back p r))
     (same_moved front nodes back) has
     (λ worth. ap (λ n. n % m) (counted-moved delta free open_names worth front nodes back))
+
+-- two runs of nodes change places
+pub runs_exchanged : (m delta free : ℕ) (open_names : List ℕ) (front one other back : List Node) → All IsNode front → All IsNode one → All IsNode other → All IsNode back →
+    AllPass (is_member ◌==◌ (names_of (front ++ (one ++ (other ++ back))))) open_names →
+    SameEverywhere m delta open_names record { nodes = front ++ (one ++ (other ++ back)); free_loops = free } record { nodes = front ++ (other ++ (one ++ back)); free_loops = free }
+runs_exchanged m delta free open_names front one other back p q r s has =
+    let same = exchanged_members front one other back in
+    alike m delta free open_names (front ++ (one ++ (other ++ back))) (front ++ (other ++ (one ++ back)))
+    (All-append IsNode front (one ++ (other ++ back)) p (All-append IsNode one (other ++ back) q (All-append IsNode other back r s)))
+    (All-append IsNode front (other ++ (one ++ back)) p (All-append IsNode other (one ++ back) r (All-append IsNode one back q s))) same has
+    (λ worth. ap (λ n. n % m) (exchanged_by (counted delta free open_names worth) (counted-moved delta free open_names worth) front one other back))
 
 -- open names that the rest or the piece has
 has_around : (front nodes back : List Node) (inner outer : List ℕ) → IsCut nodes (front ++ back) inner → AllPass (is_member ◌==◌ (names_of (front ++ back) ++ inner)) outer →

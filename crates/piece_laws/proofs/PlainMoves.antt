@@ -17,6 +17,7 @@ use Rattle.piece_laws.proofs.Closing.{weight_is_factor}
 use Rattle.piece_laws.proofs.CornerPieces.{curl_corner, bigon_corners}
 use Rattle.piece_laws.proofs.CrossingTurns.{any_corner}
 use Rattle.piece_laws.proofs.PiecesAnywhere.{piece_anywhere}
+use Rattle.piece_laws.proofs.SkeinEquations.{exchanged_numbers}
 use Rattle.piece_laws.proofs.WrittenPieces.{AreNodes-from_test, IsPiece-from_test, paired_same}
 
 -- ---- at the first slot
@@ -83,12 +84,6 @@ value_corner m delta k a b w x y z free front back p q =
     (All-append IsNode front (old ∷ back) p (All-cons IsNode old back (IsNode-corner k a b w x y z) q))
     (All-append IsNode front (new ∷ back) p (All-cons IsNode new back (IsNode-crossing (corner_weight k a b) (corner_weight (suc k) a b) w x y z) q))
     (any_corner m delta k a b w x y z free front back [] p q (All-nil (λ u. is_member ◌==◌ (names_of (front ++ old ∷ back)) u ≡ true)))
-
-pub exchanged_numbers : {m a b delta : ℕ} → AreSkeinNumbers m a b delta → AreSkeinNumbers m b a delta
-exchanged_numbers {m} {a} {b} {delta} numbers = record {
-  inverse = ap (λ n. n % m) (let e : b * a ≡ a * b = omega arith in e) ∙ numbers.inverse;
-  loop = ap (λ n. n % m) (let e : delta + b * b + a * a ≡ delta + a * a + b * b = omega arith in e) ∙ numbers.loop;
-}
 
 pub corner_numbers : (k : ℕ) {m a b delta : ℕ} → AreSkeinNumbers m a b delta → AreSkeinNumbers m (corner_weight k a b) (corner_weight (suc k) a b) delta
 corner_numbers zero numbers = numbers

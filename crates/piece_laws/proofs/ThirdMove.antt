@@ -14,7 +14,8 @@ use Rattle.piece_laws.specs.Pieces.{ArePaired}
 use Rattle.piece_laws.proofs.CornerPieces.{triangle_corners}
 use Rattle.piece_laws.proofs.MovedRuns.{value_moved}
 use Rattle.piece_laws.proofs.PiecesAnywhere.{piece_anywhere}
-use Rattle.piece_laws.proofs.PlainMoves.{value_corner, IsNode-corner, exchanged_numbers, even_or_odd}
+use Rattle.piece_laws.proofs.PlainMoves.{value_corner, IsNode-corner, even_or_odd}
+use Rattle.piece_laws.proofs.SkeinEquations.{exchanged_numbers}
 use Rattle.piece_laws.proofs.WrittenPieces.{AreNodes-from_test, IsPiece-from_test, paired_same}
 
 -- the value of three crossings and other nodes
