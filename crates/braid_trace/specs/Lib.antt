@@ -1,0 +1,3 @@
+pub mod Braids
+pub mod Faults
+pub mod Laws
