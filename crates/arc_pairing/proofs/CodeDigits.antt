@@ -1,6 +1,4 @@
 -- Codes: digits to base 32, and what a code tells of its pairing.
---
--- Others cite: digits_small, digits_rest, code_parts, decoded, digits_then_more, whole_code, same_code.
 use Rattle.std.proofs.Common.{◌≡◌, ℕ, zero, suc, ◌+◌, ◌-◌, ◌*◌, ◌/◌, ◌%◌, ◌^◌, ◌≤◌, ◌<◌, List, [], ◌∷◌, take, drop, slice_set, ◌++◌, length, slice_index, refl, sym, ap, ◌∙◌, arith, add-one, length-drop}
 use Rattle.arc_pairing.specs.Codes.{code_of, digits_of, CodeLaw}
 use Rattle.std.proofs.lemmas.List.{take_more_set, length-take-le}

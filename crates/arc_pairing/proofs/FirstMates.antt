@@ -1,8 +1,6 @@
 -- The mates before a term is joined, as the loop over the points of the old pairing makes them.
 --
 --     AreFirstMates partners mates point     the points before `point` have their partners, each other slot itself
---
--- Others cite: slots_are, first_none, first_more, first_small.
 use Rattle.std.proofs.Common.{◌≡◌, ℕ, ◌+◌, ◌≤◌, ◌<◌, List, length, slice_index, sym, subst, ◌∙◌, ⊎_elim, arith, get_or-set_other, get_or-set_same}
 use Rattle.std.specs.List.{range_with_len}
 use Rattle.std.proofs.Math.ListN.{set, length-set}

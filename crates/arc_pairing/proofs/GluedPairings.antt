@@ -1,6 +1,4 @@
 -- What `glue` knows when it returns: the mates of the slots that are left tell the partners by parts.
---
--- Others cite: end_paired, end_partners, end_loops, end_slots_small, outer_slots_small, end_short.
 use Rattle.std.proofs.Common.{◌≡◌, ℕ, ◌≤◌, ◌<◌, List, ◌++◌, map, length, slice_index, sym, ap, subst, ◌∙◌, ⊎_elim, arith}
 use Rattle.std.proofs.lemmas.Bool.{cases_lt}
 use Rattle.graph_parts.specs.Patterns.{closed_parts}

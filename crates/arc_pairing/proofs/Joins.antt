@@ -1,8 +1,6 @@
 -- A step of the loop over the pairs of a term: it closes a loop, makes two mates, or passes over a pair that was joined.
 --
 --     IsAt start slots partner mates loops i     the loop has come to the point i
---
--- Others cite: IsAt, IsAt-closed, IsAt-open, IsAt-skipped.
 use Rattle.std.proofs.Common.{◌≡◌, ◌≢◌, ℕ, zero, suc, ◌+◌, ◌≤◌, ◌<◌, true, false, cond, nat_lt, List, [], ◌∷◌, ◌++◌, length, slice_index, sym, ap, subst, ◌∙◌, arith, append-nil, get_or-set_other, get_or-set_same, add-one}
 use Rattle.std.proofs.Math.ListN.{set, length-set}
 use Rattle.std.proofs.lemmas.Bool.Decides.{nat_tests}

@@ -1,6 +1,4 @@
 -- The mirror image of a pairing is a pairing.
---
--- Others cite: IsShortPairing-mirrored, mirrored_whole.
 use Rattle.std.proofs.Common.{◌≡◌, ◌≢◌, ℕ, ◌-◌, ◌<◌, ◌≤◌, List, length, reverse, slice_index, take, ap, ◌∙◌, arith}
 use Rattle.std.proofs.lemmas.List.{get_or-map, length-map, get_or-reverse, length-reverse, take_all}
 use Rattle.state_sums.specs.Networks.{IsPairing}

@@ -1,6 +1,4 @@
 -- The lists of a seam: names that stand once, slots and their places.
---
--- Others cite: open_permuted, increasing_permuted, few_filtered, first_slot, placed_more, distinct_slots, made_seam.
 use Rattle.std.proofs.Common.{◌≡◌, ◌≢◌, ℕ, ◌+◌, ◌<◌, ◌≤◌, ◌==◌, Bool, true, cond, List, ◌++◌, length, map, slice_index, take, drop, IsPermutation, sym, ap, subst, ◌∙◌, arith, get_or-set_other, get_or-set_same}
 use Rattle.std.specs.List.{filter, refill}
 use Rattle.std.specs.List.Sorted.{IsNonDecreasing, IsStrictlyIncreasing}

@@ -15,6 +15,7 @@
 --     IsNoncrossing partner         no two pairs cross: none have their points in turn, one of the first, one of the second
 use Rattle.std.specs.Prelude.{◌≡◌, ◌≢◌, ℕ, ◌-◌, ◌<◌, ◌≤◌, List, length, map, reverse, slice_index}
 use Rattle.state_sums.specs.Networks.{IsPairing}
+use Rattle.arc_pairing.specs.declared.limits.TheConstants.{MOST_POINTS}
 
 -- The partner of point i is another point, which names it back.
 abbrev pub IsPairedAt : List ℕ → ℕ → Type 0
@@ -29,7 +30,7 @@ pub record IsFirstUnpaired (partner : List ℕ) (i : ℕ) : Type 0 where
 
 -- A pairing of at most 24 points.
 pub record IsShortPairing (partner : List ℕ) : Type 0 where
-  pub short : length partner ≤ 24
+  pub short : length partner ≤ MOST_POINTS
   pub paired : IsPairing partner
 
 -- Point i becomes point n-1-i of n.

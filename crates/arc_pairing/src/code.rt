@@ -4,6 +4,7 @@ ghost use Rattle.std.specs.Prelude.{◌≡◌, ◌<◌, ◌≤◌, ◌^◌, ℕ,
 ghost use Rattle.arc_pairing.specs.Pairings.{IsShortPairing};
 ghost use Rattle.arc_pairing.specs.Codes.{digits_of, code_of};
 
+use crate::limits::MOST_POINTS;
 use crate::pairing::Pairing;
 
 /// 2^120: what one point more adds to a code.
@@ -12,7 +13,7 @@ const POINT: u128 = 1_329_227_995_784_915_872_903_807_060_280_344_576;
 /// The partners as digits to base 32, the first one lowest.
 fn digits(partner: &[u8]) -> u128
     requires small { (i : ℕ) → i < length partner.now → slice_index partner.now i < 32 }
-    requires few { length partner.now ≤ 24 }
+    requires few { length partner.now ≤ MOST_POINTS }
     ensures value { result ≡ digits_of partner.now }
     ensures bound { result < 2 ^ 120 }
 {
@@ -43,11 +44,11 @@ impl Pairing {
         ensures only { IfSome result (λ pairing. code_of pairing ≡ code) }
     {
         let points = code / POINT;
-        if points > 24 {
+        if points > MOST_POINTS as u128 {
             return None;
         }
         let mut rest = code % POINT;
-        let mut partner = [0u8; 24];
+        let mut partner = [0u8; MOST_POINTS];
         for at in 0..points as usize {
             partner[at] = (rest % 32) as u8;
             rest /= 32;

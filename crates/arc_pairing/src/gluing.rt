@@ -6,6 +6,7 @@ ghost use Rattle.arc_gluing.specs.Mates.{mates_after, loops_after, pairs_below};
 ghost use Rattle.arc_gluing.specs.Pairings.{IsPairedBy, partners_of};
 ghost use Rattle.arc_pairing.specs.Gluing.{glued_edges};
 
+use crate::limits::{MOST_POINTS, MOST_SLOTS};
 use crate::pairing::Pairing;
 use crate::seam::Seam;
 use arrayvec::ArrayVec;
@@ -62,18 +63,18 @@ pub struct Glued {
 }
 
 /// Each slot as its own mate.
-const SLOTS: [u8; 48] = [
+const SLOTS: [u8; MOST_SLOTS] = [
     0, 1, 2, 3, 4, 5, 6, 7, 8, 9, 10, 11, 12, 13, 14, 15, 16, 17, 18, 19, 20, 21, 22, 23, 24, 25,
     26, 27, 28, 29, 30, 31, 32, 33, 34, 35, 36, 37, 38, 39, 40, 41, 42, 43, 44, 45, 46, 47,
 ];
 
 /// The mates before a term is joined: the partner for each point of the pairing, and each other slot its own mate.
-fn first_mates(partners: &[u8]) -> [u8; 48]
-    requires few { length partners.now ≤ 24 }
+fn first_mates(partners: &[u8]) -> [u8; MOST_SLOTS]
+    requires few { length partners.now ≤ MOST_POINTS }
     requires within { (i : ℕ) → i < length partners.now → slice_index partners.now i < length partners.now }
     ensures points { (i : ℕ) → i < length partners.now → slice_index result i ≡ slice_index partners.now i }
-    ensures others { (x : ℕ) → length partners.now ≤ x → x < 48 → slice_index result x ≡ x }
-    ensures small { (x : ℕ) → slice_index result x < 48 }
+    ensures others { (x : ℕ) → length partners.now ≤ x → x < MOST_SLOTS → slice_index result x ≡ x }
+    ensures small { (x : ℕ) → slice_index result x < MOST_SLOTS }
 {
     let mut mates = SLOTS;
     for (point, partner) in partners.iter().enumerate() {
@@ -84,14 +85,14 @@ fn first_mates(partners: &[u8]) -> [u8; 48]
 
 /// Joins the pairs of a term to the mates, pair by pair, and counts the loops that close: one where
 /// the two are each other's mates already.
-fn join_pairs(mates: &mut [u8; 48], slots: &[u8], partner: &[u8]) -> u32
-    requires slots { (i : ℕ) → slice_index slots.now i < 48 }
-    requires mates { (x : ℕ) → slice_index mates.old x < 48 }
+fn join_pairs(mates: &mut [u8; MOST_SLOTS], slots: &[u8], partner: &[u8]) -> u32
+    requires slots { (i : ℕ) → slice_index slots.now i < MOST_SLOTS }
+    requires mates { (x : ℕ) → slice_index mates.old x < MOST_SLOTS }
     requires within { (i : ℕ) → i < length partner.now → slice_index partner.now i < length partner.now }
     requires same { length partner.now ≡ length slots.now }
-    requires few { length slots.now ≤ 24 }
+    requires few { length slots.now ≤ MOST_POINTS }
     ensures mates { (x : ℕ) → slice_index mates.new x ≡ mates_after (slice_index mates.old) (pairs_below slots.now partner.now (length partner.now)) x }
-    ensures small { (x : ℕ) → slice_index mates.new x < 48 }
+    ensures small { (x : ℕ) → slice_index mates.new x < MOST_SLOTS }
     ensures bound { result ≤ length partner.now }
     ensures loops { result ≡ loops_after (slice_index mates.old) (pairs_below slots.now partner.now (length partner.now)) }
 {
@@ -115,10 +116,14 @@ fn join_pairs(mates: &mut [u8; 48], slots: &[u8], partner: &[u8]) -> u32
 }
 
 /// The places of the mates of these slots.
-fn places_of_mates(mates: &[u8; 48], slots: &[u8], places: &[u8; 48]) -> ArrayVec<u8, 24>
-    requires few { length slots.now ≤ 24 }
-    requires slots { (i : ℕ) → slice_index slots.now i < 48 }
-    requires small { (x : ℕ) → slice_index mates.now x < 48 }
+fn places_of_mates(
+    mates: &[u8; MOST_SLOTS],
+    slots: &[u8],
+    places: &[u8; MOST_SLOTS],
+) -> ArrayVec<u8, MOST_POINTS>
+    requires few { length slots.now ≤ MOST_POINTS }
+    requires slots { (i : ℕ) → slice_index slots.now i < MOST_SLOTS }
+    requires small { (x : ℕ) → slice_index mates.now x < MOST_SLOTS }
     ensures { result.items ≡ map (λ x. slice_index places.now (slice_index mates.now x)) slots.now }
 {
     let mut partners = ArrayVec::new();
@@ -141,7 +146,7 @@ pub fn glue(old: &Pairing, term: &Pairing, seam: &Seam, turns: &mut Turns) -> Gl
     ensures paired { IsPairedBy (glued_edges seam.now old.now term.now) seam.now.outer result.pairing }
     ensures partners { result.pairing ≡ partners_of (seam.now.inner ++ seam.now.ends) (glued_edges seam.now old.now term.now) seam.now.outer }
     ensures closed { result.loops ≡ closed_parts (seam.now.inner ++ seam.now.ends) (glued_edges seam.now old.now term.now) seam.now.outer }
-    ensures few { result.loops ≤ 24 }
+    ensures few { result.loops ≤ MOST_POINTS }
     ensures turns { turns.new ≡ turns.old + 1 }
 {
     let points = old.partners();

@@ -7,6 +7,7 @@ ghost use Rattle.arc_pairing.specs.Counts.{StandsTwice, IsLeastMiscount};
 ghost use Rattle.arc_pairing.specs.Nodes.{IsShortNode, IsSmallNetwork};
 
 use crate::fault::NetworkFault;
+use crate::limits::{MOST_FREE_LOOPS, MOST_NODES, MOST_POINTS};
 use crate::names::least_miscount;
 use crate::node::Node;
 use std::alloc::{AllocError, Global};
@@ -33,14 +34,11 @@ impl Model for Network {
     ghost invariant = { λ network. IsSmallNetwork record { nodes = network.nodes.items; free_loops = network.free } };
 }
 
-/// The most nodes of a network.
-const MOST_NODES: usize = 65_536;
-
 /// The names of all ends, in order.
 fn all_names(alloc: Global, nodes: &[Node]) -> Result<Vec<u32>, AllocError>
     ensures value { IfOk result (λ names. names.items ≡ names_of nodes.now) }
     ensures nodes { OnOk result (All IsShortNode nodes.now) }
-    ensures few { IfOk result (λ names. length names.items ≤ 24 * length nodes.now) }
+    ensures few { IfOk result (λ names. length names.items ≤ MOST_POINTS * length nodes.now) }
 {
     let mut names = Vec::new(alloc);
     for node in nodes {
@@ -51,7 +49,7 @@ fn all_names(alloc: Global, nodes: &[Node]) -> Result<Vec<u32>, AllocError>
 
 /// Whether each name stands exactly twice over at most 65,536 nodes, or the least one that doesn't.
 fn check_names(alloc: Global, nodes: &[Node]) -> Result<(), NetworkFault>
-    requires { length nodes.now ≤ 65536 }
+    requires { length nodes.now ≤ MOST_NODES }
     ensures twice { OnOk result ((x : ℕ) → StandsTwice (names_of nodes.now) x) }
     ensures nodes { OnOk result (All IsShortNode nodes.now) }
     ensures name { (name count : ℕ) → result ≡ Err (NetworkFault.Name name count) → IsLeastMiscount (names_of nodes.now) name count }
@@ -74,10 +72,10 @@ impl Network {
     /// `TooMany` holds 65,536 and comes exactly past as many nodes, then `Name` holds the least name
     /// that doesn't stand twice over all nodes, and how often it stands. `Memory` is want of memory.
     pub fn new(alloc: Global, nodes: Vec<Node>, free: u32) -> Result<Network, NetworkFault>
-        requires { free ≤ 256 }
+        requires { free ≤ MOST_FREE_LOOPS }
         ensures made { IfOk result (λ network. network ≡ record { nodes = nodes.items; free_loops = free }) }
         ensures twice { OnOk result ((x : ℕ) → StandsTwice (names_of nodes.items) x) }
-        ensures too_many { (limit : ℕ) → (result ≡ Err (NetworkFault.TooMany limit)) ↔ (65536 < length nodes.items) × (limit ≡ 65536) }
+        ensures too_many { (limit : ℕ) → (result ≡ Err (NetworkFault.TooMany limit)) ↔ (MOST_NODES < length nodes.items) × (limit ≡ MOST_NODES) }
         ensures name { (name count : ℕ) → result ≡ Err (NetworkFault.Name name count) → IsLeastMiscount (names_of nodes.items) name count }
     {
         if nodes.len() > MOST_NODES {
@@ -102,7 +100,7 @@ impl Network {
     pub fn names(&self, alloc: Global) -> Result<Vec<u32>, AllocError>
         ensures value { IfOk result (λ names. names.items ≡ names_of self.now.nodes) }
         ensures nodes { OnOk result (All IsShortNode self.now.nodes) }
-        ensures few { IfOk result (λ names. length names.items ≤ 24 * length self.now.nodes) }
+        ensures few { IfOk result (λ names. length names.items ≤ MOST_POINTS * length self.now.nodes) }
     {
         all_names(alloc, &self.nodes)
     }

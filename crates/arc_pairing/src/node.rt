@@ -6,6 +6,7 @@ ghost use Rattle.arc_pairing.specs.Pairings.{IsShortPairing};
 ghost use Rattle.arc_pairing.specs.Nodes.{IsShortNode, first_misfit};
 
 use crate::fault::NodeFault;
+use crate::limits::{MOST_POINTS, MOST_TERMS};
 use crate::pairing::Pairing;
 use std::alloc::{AllocError, Global};
 use std::marker::Model;
@@ -63,12 +64,6 @@ impl Model for Node {
     ghost invariant = { λ node. IsShortNode record { group = node.group; ends = node.ends.items; terms = node.terms.items } };
 }
 
-/// The most ends of a node.
-const MOST_ENDS: usize = 24;
-
-/// The most terms of a node.
-const MOST_TERMS: usize = 1_048_576;
-
 /// The first term whose pairing hasn't so many points as there are ends.
 fn first_misfit(ends: usize, terms: &[Term]) -> Option<usize>
     ensures { result ≡ first_misfit ends terms.now }
@@ -101,12 +96,12 @@ impl Node {
         ensures made { IfOk result (λ node. node ≡ record { group = group; ends = ends.now; terms = terms.now }) }
 
         // The refusals, in their order; the limits are looked at before memory is asked for.
-        ensures long { (given : ℕ) → (result ≡ Err (NodeFault.Long given)) ↔ (24 < length ends.now) × (given ≡ length ends.now) }
-        ensures too_many { (limit : ℕ) → (result ≡ Err (NodeFault.TooMany limit)) ↔ (length ends.now ≤ 24) × (1048576 < length terms.now) × (limit ≡ 1048576) }
+        ensures long { (given : ℕ) → (result ≡ Err (NodeFault.Long given)) ↔ (MOST_POINTS < length ends.now) × (given ≡ length ends.now) }
+        ensures too_many { (limit : ℕ) → (result ≡ Err (NodeFault.TooMany limit)) ↔ (length ends.now ≤ MOST_POINTS) × (MOST_TERMS < length terms.now) × (limit ≡ MOST_TERMS) }
         ensures misfit { (term : ℕ) → (result ≡ Err (NodeFault.Ends term))
-            ↔ (length ends.now ≤ 24) × (length terms.now ≤ 1048576) × (first_misfit (length ends.now) terms.now ≡ Some term) }
+            ↔ (length ends.now ≤ MOST_POINTS) × (length terms.now ≤ MOST_TERMS) × (first_misfit (length ends.now) terms.now ≡ Some term) }
     {
-        if ends.len() > MOST_ENDS {
+        if ends.len() > MOST_POINTS {
             return Err(NodeFault::Long { given: ends.len() });
         }
         if terms.len() > MOST_TERMS {

@@ -5,6 +5,7 @@ ghost use Rattle.state_sums.specs.Networks.{IsPairing};
 ghost use Rattle.arc_pairing.specs.Pairings.{IsPairedAt, IsFirstUnpaired, IsShortPairing, mirrored, IsNoncrossing};
 
 use crate::fault::PairingFault;
+use crate::limits::MOST_POINTS;
 use arrayvec::ArrayVec;
 use std::marker::Model;
 
@@ -15,7 +16,7 @@ use std::marker::Model;
 /// order: 1,0,3,2 is less than 2,3,0,1, and 1,0 is less than both.
 #[derive(Drop, Debug, PartialEq, Eq, PartialOrd, Ord)]
 pub struct Pairing {
-    pub(crate) partners: ArrayVec<u8, 24>,
+    pub(crate) partners: ArrayVec<u8, MOST_POINTS>,
 }
 
 impl Model for Pairing {
@@ -48,13 +49,13 @@ impl Pairing {
     /// memory.
     pub fn new(partner: &[u8]) -> Result<Pairing, PairingFault>
         ensures made { IfOk result (λ pairing. pairing ≡ partner.now) }
-        ensures succeeds { length partner.now ≤ 24 → IsPairing partner.now → IsOk result }
+        ensures succeeds { length partner.now ≤ MOST_POINTS → IsPairing partner.now → IsOk result }
 
         // The length is looked at before the points.
-        ensures long { (given : ℕ) → (result ≡ Err (PairingFault.Long given)) ↔ (24 < length partner.now) × (given ≡ length partner.now) }
+        ensures long { (given : ℕ) → (result ≡ Err (PairingFault.Long given)) ↔ (MOST_POINTS < length partner.now) × (given ≡ length partner.now) }
         ensures not_pairing { (at : ℕ) → result ≡ Err (PairingFault.NotPairing at) → IsFirstUnpaired partner.now at }
     {
-        if partner.len() > 24 {
+        if partner.len() > MOST_POINTS {
             return Err(PairingFault::Long {
                 given: partner.len(),
             });

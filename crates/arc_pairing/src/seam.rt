@@ -8,7 +8,9 @@ ghost use Rattle.arc_gluing.specs.Pairings.{AreOpen};
 ghost use Rattle.arc_gluing.specs.Seams.{place_in};
 ghost use Rattle.arc_pairing.specs.Gluing.{single_count};
 
+use crate::limits::{MOST_POINTS, MOST_SLOTS};
 use arrayvec::ArrayVec;
+use list_lemmas::count_of;
 use std::marker::Model;
 
 /// More names are left than a pairing has room for.
@@ -24,12 +26,12 @@ pub struct TooWide {
 /// Contracts see a seam as the three lists of names.
 #[derive(Drop)]
 pub struct Seam {
-    inner: ArrayVec<u32, 24>,
-    ends: ArrayVec<u32, 24>,
-    outer: ArrayVec<u32, 24>,
-    pub(crate) end_slots: ArrayVec<u8, 24>,
-    pub(crate) outer_slots: ArrayVec<u8, 24>,
-    pub(crate) places: [u8; 48],
+    inner: ArrayVec<u32, MOST_POINTS>,
+    ends: ArrayVec<u32, MOST_POINTS>,
+    outer: ArrayVec<u32, MOST_POINTS>,
+    pub(crate) end_slots: ArrayVec<u8, MOST_POINTS>,
+    pub(crate) outer_slots: ArrayVec<u8, MOST_POINTS>,
+    pub(crate) places: [u8; MOST_SLOTS],
 }
 
 impl Model for Seam {
@@ -44,8 +46,8 @@ impl Model for Seam {
 }
 
 /// An equal list, of at most 24 names.
-fn copied(names: &[u32]) -> ArrayVec<u32, 24>
-    requires { length names.now ≤ 24 }
+fn copied(names: &[u32]) -> ArrayVec<u32, MOST_POINTS>
+    requires { length names.now ≤ MOST_POINTS }
     ensures { result.items ≡ names.now }
 {
     let mut copies = ArrayVec::new();
@@ -56,9 +58,9 @@ fn copied(names: &[u32]) -> ArrayVec<u32, 24>
 }
 
 /// The names and then the ends, of each at most 24.
-fn joined(names: &[u32], ends: &[u32]) -> ArrayVec<u32, 48>
-    requires few_names { length names.now ≤ 24 }
-    requires few_ends { length ends.now ≤ 24 }
+fn joined(names: &[u32], ends: &[u32]) -> ArrayVec<u32, MOST_SLOTS>
+    requires few_names { length names.now ≤ MOST_POINTS }
+    requires few_ends { length ends.now ≤ MOST_POINTS }
     ensures { result.items ≡ names.now ++ ends.now }
 {
     let mut all = ArrayVec::new();
@@ -71,21 +73,14 @@ fn joined(names: &[u32], ends: &[u32]) -> ArrayVec<u32, 48>
     all
 }
 
-/// How often the name stands.
-fn times(all: &[u32], name: u32) -> usize
-    ensures { result ≡ times_in all.now name }
-{
-    all.iter().filter(|other| name == **other).count()
-}
-
 /// The names that stand once, in order, of at most 48.
-fn single_names(all: &[u32]) -> ArrayVec<u32, 48>
-    requires { length all.now ≤ 48 }
+fn single_names(all: &[u32]) -> ArrayVec<u32, MOST_SLOTS>
+    requires { length all.now ≤ MOST_SLOTS }
     ensures { result.items ≡ filter (λ x. times_in all.now x == 1) all.now }
 {
     let mut single = ArrayVec::new();
     for name in all {
-        if times(all, *name) == 1 {
+        if count_of(all, *name) == 1 {
             single.push(*name);
         }
     }
@@ -93,8 +88,8 @@ fn single_names(all: &[u32]) -> ArrayVec<u32, 48>
 }
 
 /// The names that stand once, increasing, of at most 48.
-fn names_once(all: &[u32]) -> ArrayVec<u32, 48>
-    requires { length all.now ≤ 48 }
+fn names_once(all: &[u32]) -> ArrayVec<u32, MOST_SLOTS>
+    requires { length all.now ≤ MOST_SLOTS }
     ensures left { AreOpen all.now result.items }
     ensures ascending { IsStrictlyIncreasing result.items }
     ensures count { length result.items ≡ single_count all.now }
@@ -118,9 +113,9 @@ fn slot_of(all: &[u32], name: u32) -> usize
 }
 
 /// The slots of the names, of which there are at most 24.
-fn slots_of(all: &[u32], names: &[u32]) -> ArrayVec<u8, 24>
-    requires few { length all.now ≤ 48 }
-    requires few_names { length names.now ≤ 24 }
+fn slots_of(all: &[u32], names: &[u32]) -> ArrayVec<u8, MOST_POINTS>
+    requires few { length all.now ≤ MOST_SLOTS }
+    requires few_names { length names.now ≤ MOST_POINTS }
     ensures { result.items ≡ map (place_in all.now) names.now }
 {
     let mut slots = ArrayVec::new();
@@ -131,13 +126,13 @@ fn slots_of(all: &[u32], names: &[u32]) -> ArrayVec<u8, 24>
 }
 
 /// For each slot its place in the list of these slots, all different.
-fn places_of(slots: &[u8]) -> [u8; 48]
-    requires few { length slots.now ≤ 24 }
-    requires small { (i : ℕ) → i < length slots.now → slice_index slots.now i < 48 }
+fn places_of(slots: &[u8]) -> [u8; MOST_SLOTS]
+    requires few { length slots.now ≤ MOST_POINTS }
+    requires small { (i : ℕ) → i < length slots.now → slice_index slots.now i < MOST_SLOTS }
     requires apart { (i j : ℕ) → i < length slots.now → j < length slots.now → slice_index slots.now i ≡ slice_index slots.now j → i ≡ j }
     ensures { (i : ℕ) → i < length slots.now → slice_index result (slice_index slots.now i) ≡ i }
 {
-    let mut places = [0; 48];
+    let mut places = [0; MOST_SLOTS];
     for (place, slot) in slots.iter().enumerate() {
         places[usize::from(*slot)] = place as u8;
     }
@@ -152,18 +147,18 @@ impl Seam {
     /// `TooWide` holds how many names stand once, and comes exactly where these are more than 24. It
     /// takes no memory.
     pub fn of(names: &[u32], ends: &[u32]) -> Result<Seam, TooWide>
-        requires few_names { length names.now ≤ 24 }
-        requires few_ends { length ends.now ≤ 24 }
+        requires few_names { length names.now ≤ MOST_POINTS }
+        requires few_ends { length ends.now ≤ MOST_POINTS }
         requires increasing { IsStrictlyIncreasing names.now }
         requires few { (x : ℕ) → times_in (names.now ++ ends.now) x ≤ 2 }
         ensures made { IfOk result (λ seam. (seam.inner ≡ names.now) × (seam.ends ≡ ends.now)) }
         ensures left { IfOk result (λ seam. AreOpen (names.now ++ ends.now) seam.outer) }
         ensures ascending { IfOk result (λ seam. IsStrictlyIncreasing seam.outer) }
-        ensures wide { (count : ℕ) → (result ≡ Err (record { ends = count })) ↔ (24 < single_count (names.now ++ ends.now)) × (count ≡ single_count (names.now ++ ends.now)) }
+        ensures wide { (count : ℕ) → (result ≡ Err (record { ends = count })) ↔ (MOST_POINTS < single_count (names.now ++ ends.now)) × (count ≡ single_count (names.now ++ ends.now)) }
     {
         let all = joined(names, ends);
         let single = names_once(all.as_slice());
-        if single.len() > 24 {
+        if single.len() > MOST_POINTS {
             return Err(TooWide {
                 ends: single.len() as u32,
             });
@@ -181,13 +176,20 @@ impl Seam {
         })
     }
 
+    /// The names that are left, increasing. It takes no memory.
+    pub fn into_names(self) -> ArrayVec<u32, MOST_POINTS>
+        ensures { result.items ≡ self.outer }
+    {
+        self.outer
+    }
+
     /// The names that are left, increasing: those that stand once. It takes no memory.
     #[inline]
     pub fn names(&self) -> &[u32]
         ensures value { result.now ≡ self.now.outer }
         ensures left { AreOpen (self.now.inner ++ self.now.ends) self.now.outer }
         ensures ascending { IsStrictlyIncreasing self.now.outer }
-        ensures few { length self.now.outer ≤ 24 }
+        ensures few { length self.now.outer ≤ MOST_POINTS }
     {
         self.outer.as_slice()
     }

@@ -1,6 +1,4 @@
 -- Orders whose places are chosen one by one: one more place, and the one order that a function of the view gives.
---
--- Others cite: IsChosen-none, IsChosen-more, IsChosen-order_by, IsChosen-only.
 use Rattle.std.proofs.Common.{◌≡◌, ℕ, zero, suc, ◌+◌, ◌<◌, ◌≤◌, ⊎_elim, ◌⊎◌, List, [], ◌∷◌, ◌++◌, length, take, slice_index, refl, sym, ap, subst, ◌∙◌, arith}
 use Rattle.std.specs.List.{fold, range_with_len}
 use Rattle.std.proofs.lemmas.List.{get_or_append_left, get_or_push, length_push, take-append-le, take_all, take_at, take_more}

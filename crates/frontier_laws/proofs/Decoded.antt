@@ -1,6 +1,4 @@
 -- Codes are read back: the digits of a pairing's code are its partners.
---
--- Others cite: decoded-code_of.
 use Rattle.std.proofs.Common.{◌≡◌, ℕ, zero, suc, ◌+◌, ◌*◌, ◌/◌, ◌%◌, ◌^◌, ◌-◌, ◌<◌, ◌≤◌, List, [], ◌∷◌, map, length, slice_index, refl, sym, ap, ◌∙◌, arith, mul_assoc, mul_left_comm}
 use Rattle.std.proofs.Math.Nat.{pow-succ', div-div-eq-div-mul, pow-zero}
 use Rattle.std.specs.List.{range_with_len}

@@ -1,6 +1,4 @@
 -- The first of the places at which a measure is least, found by going through them.
---
--- Others cite: better, running, running-all, running-more, better-then, better-else, first_least-among.
 use Rattle.std.proofs.Common.{◌≡◌, ◌≢◌, ℕ, ◌<◌, ◌≤◌, ◌==◌, nat_lt, Bool, true, false, if◌then◌else◌, List, [], ◌∷◌, map, fold, filter, slice_index, take, length, ◌+◌, refl, sym, ap, subst, ◌∙◌, arith}
 use Rattle.std.specs.List.{AllPass}
 use Rattle.std.specs.Set.{is_member}

@@ -1,6 +1,4 @@
 -- Orders where each view has one answer at the most, and what the greedy order looks at.
---
--- Others cite: fixed_order, one_limit, open_with-after.
 use Rattle.std.proofs.Common.{◌≡◌, ℕ, zero, suc, ◌+◌, ◌<◌, ◌≤◌, ⊎_elim, List, [], ◌∷◌, ◌++◌, take, take_all, length, slice_index, refl, sym, ap, subst, ◌∙◌, arith}
 use Rattle.std.proofs.lemmas.List.{take-map, take_more}
 use Rattle.state_sums.specs.Networks.{Node, Network, IsNetwork}

@@ -1,6 +1,4 @@
 -- Tests over lists: of mapped and joined lists, and of lists with the same members.
---
--- Others cite: any_all, any_each, any-map, any-flat_map, same_tests, map_all, flat_map_all, flat_map_each, map-flat_map, flat_map-flat_map.
 use Rattle.std.proofs.Common.{◌≡◌, ℕ, ◌==◌, Bool, true, List, [], ◌∷◌, ◌++◌, map, refl, sym, ap, ◌∙◌, arith}
 use Rattle.std.specs.List.{All, flat_map, list_any}
 use Rattle.std.specs.Set.{is_member}

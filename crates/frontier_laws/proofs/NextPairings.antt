@@ -1,7 +1,5 @@
 -- The pairings of some nodes: each is a short one of the open names, and one more node glues each of its terms to each of
 -- them.
---
--- Others cite: seam_of, IsOpenPairing, open_pairings, glued_partner, pairings_after.
 use Rattle.std.proofs.Common.{◌≡◌, ℕ, ◌≤◌, List, [], ◌∷◌, ◌++◌, map, length, sym, ap, ◌∙◌, append-nil, arith}
 use Rattle.std.specs.List.{All, flat_map}
 use Rattle.std.proofs.lemmas.List.Concat.{flat_map_single}

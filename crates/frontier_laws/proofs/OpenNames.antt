@@ -1,6 +1,4 @@
 -- The open names of some nodes: what tells them, and what they are with one node more.
---
--- Others cite: AreOpen-open_names, increasing-open_names, open_names-same, open_names-closed, open_after, open_count-after, few_after.
 use Rattle.std.proofs.Common.{◌≡◌, ℕ, ◌≤◌, ◌==◌, true, cond, List, [], ◌∷◌, ◌++◌, length, sym, ap, ◌∙◌, arith}
 use Rattle.std.specs.List.Sorted.{IsStrictlyIncreasing}
 use Rattle.std.specs.Set.{is_member}

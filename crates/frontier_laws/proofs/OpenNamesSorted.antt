@@ -1,6 +1,4 @@
 -- Sorting names, and increasing lists: how often a number stands in them tells them.
---
--- Others cite: times_in-cons, times_filter, times_increasing, length_increasing, non_decreasing_increasing, one_increasing, permuted_times.
 use Rattle.std.proofs.Common.{◌≡◌, ℕ, suc, ◌+◌, ◌<◌, ◌≤◌, ◌==◌, nat_lt, Bool, true, false, cond, ⊎_elim, List, [], ◌∷◌, length, get_or, refl, sym, ap, subst, ◌∙◌, arith}
 use Rattle.std.specs.List.{All, AllPairs, filter, remove}
 use Rattle.std.specs.List.Sorted.{IsNonDecreasing, IsStrictlyIncreasing, IsPermutation}

@@ -1,6 +1,4 @@
 -- How many names are open with one more node, counted with no search for each two names.
---
--- Others cite: single_count-once, once_open.
 use Rattle.std.proofs.Common.{◌≡◌, ℕ, ◌+◌, ◌≤◌, ◌==◌, Bool, true, false, not, ◌&&◌, List, ◌++◌, ap, arith}
 use Rattle.std.specs.List.{count_by}
 use Rattle.std.specs.Set.{is_member}

@@ -1,6 +1,4 @@
 -- Places of nodes, taken one by one: which are taken and which are left.
---
--- Others cite: IsPartOrder-none, left_below, IsPartOrder-more, left_none, left_increasing, left_all_below, left_more, order_and_left, order_length, taken_again.
 use Rattle.std.proofs.Common.{◌≡◌, ℕ, zero, suc, ◌+◌, ◌<◌, ◌≤◌, ◌==◌, nat_lt, Bool, true, false, cond, not, ◌&&◌, ⊎_elim, List, [], ◌∷◌, ◌++◌, length, slice_index, refl, sym, ap, subst, ◌∙◌, arith, length-append}
 use Rattle.std.specs.List.{All, AllPairs, filter, range_with_len, remove}
 use Rattle.std.specs.List.Sorted.{IsStrictlyIncreasing, IsPermutation}

@@ -1,6 +1,4 @@
 -- The nodes that an order of places takes: they keep what holds of the nodes, and all of them are the network.
---
--- Others cite: taken_more, taken_length, AreNodes-taken, AreFew-order, whole_value, whole_closed, shown_in_view.
 use Rattle.std.proofs.Common.{◌≡◌, ℕ, ◌<◌, ◌≤◌, List, [], ◌∷◌, ◌++◌, map, length, refl, sym, ap, subst, ◌∙◌, arith, append-nil}
 use Rattle.std.specs.List.{All, range_with_len, sum_by}
 use Rattle.std.specs.List.Sorted.{IsPermutation, IsStrictlyIncreasing}

@@ -1,6 +1,4 @@
 -- How long a table is: as long as there are different pairings, and no longer at any time while a node is added.
---
--- Others cite: table_length, table_small, table_small_new.
 use Rattle.std.proofs.Common.{◌≡◌, ℕ, ◌+◌, ◌≤◌, ◌==◌, true, false, cond, List, [], ◌∷◌, ◌++◌, map, length, refl, sym, ap, ◌∙◌, arith}
 use Rattle.std.specs.List.{All}
 use Rattle.std.specs.Map.{keys_of}

@@ -1,6 +1,4 @@
 -- What a table tells: each of its codes spells a pairing of the open names, and with no open name it has the state sum.
---
--- Others cite: entry_spelled, table_end_value.
 use Rattle.std.proofs.Common.{◌≡◌, ℕ, zero, suc, ◌*◌, ◌^◌, ◌%◌, ◌<◌, ◌≤◌, ◌==◌, Bool, true, false, cond, List, [], ◌∷◌, length, get_or, slice_index, refl, sym, ap, subst, ◌∙◌, arith, ⊎_elim, mul_comm, None, Some}
 use Rattle.std.specs.List.{All, IsDistinct, list_any}
 use Rattle.std.specs.Map.{keys_of, lookup}

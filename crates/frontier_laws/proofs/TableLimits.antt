@@ -1,7 +1,5 @@
 -- While a node is added: a code that is new fits among the pairings after the node, so that where the table is full already,
 -- there are more pairings than it holds.
---
--- Others cite: added_all_at, new_code_fits_at.
 use Rattle.std.proofs.Common.{◌≡◌, ℕ, suc, ◌+◌, ◌<◌, ◌≤◌, ◌==◌, false, List, [], ◌∷◌, ◌++◌, map, length, take, drop, get_or, sym, ap, ◌∙◌}
 use Rattle.std.specs.List.{All}
 use Rattle.std.specs.Map.{keys_of}

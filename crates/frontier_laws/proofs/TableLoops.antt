@@ -1,6 +1,4 @@
 -- The items of a node in a loop over the entries of the table and, in it, a loop over the terms.
---
--- Others cite: items_so_far, items_split, added_more, added_all.
 use Rattle.std.proofs.Common.{◌≡◌, ℕ, List, [], ◌∷◌, ◌++◌, map, sym, ap, ◌∙◌, append_assoc, append-nil}
 use Rattle.std.proofs.lemmas.List.{map-append}
 use Rattle.std.proofs.lemmas.List.Concat.{flat_map-append}

@@ -1,6 +1,4 @@
 -- The table of no node, and the table of some nodes and one more.
---
--- Others cite: table_of_none, table_after.
 use Rattle.std.proofs.Common.{◌≡◌, ℕ, ◌+◌, ◌*◌, ◌^◌, ◌%◌, ◌≤◌, ◌==◌, Bool, List, [], ◌∷◌, ◌++◌, map, refl, sym, ap, ◌∙◌, arith}
 use Rattle.std.specs.List.{All, IsDistinct, flat_map, list_any}
 use Rattle.std.specs.Map.{keys_of}

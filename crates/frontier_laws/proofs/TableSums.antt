@@ -1,6 +1,4 @@
 -- What a table comes to, whatever its codes are worth: after one more item, after all, and before a node is glued.
---
--- Others cite: add_all-sum, contributions-sum.
 use Rattle.std.proofs.Common.{◌≡◌, ℕ, ◌+◌, ◌*◌, ◌^◌, ◌%◌, ◌==◌, cond, List, [], ◌∷◌, ◌++◌, map, sum_by, refl, ap, ◌∙◌, arith, mul_assoc, ⊎_elim}
 use Rattle.std.proofs.Math.Nat.{mod-mod}
 use Rattle.std.proofs.lemmas.Bool.{cases_Bool}

@@ -1,6 +1,4 @@
 -- What one more item, and all items, make of a table: its codes, its length, its entries and its residues.
---
--- Others cite: add_in-length, add_in_present, add_in-residue, add_in-below, add_all-append, add_all-push, add_all-codes, add_all-distinct, add_all-below.
 use Rattle.std.proofs.Common.{◌≡◌, ℕ, ◌+◌, ◌%◌, ◌<◌, ◌==◌, Bool, cond, ◌||◌, List, [], ◌∷◌, ◌++◌, map, length, refl, sym, ap, subst, ◌∙◌, arith, None, Some, ⊎_elim}
 use Rattle.std.specs.List.{IsDistinct, All}
 use Rattle.std.specs.Map.{keys_of, lookup, set_value}

@@ -1,6 +1,4 @@
 -- Turns and limits, from some nodes to one more: the turns that come, and whether a limit is met.
---
--- Others cite: range_more, turns_after, within_none, within_after, wide_after, full_after.
 use Rattle.std.proofs.Common.{◌≡◌, ℕ, zero, suc, ◌+◌, ◌*◌, ◌<◌, ◌≤◌, List, [], ◌∷◌, ◌++◌, map, length, take, sum_by, refl, sym, ap, subst, ◌∙◌, arith, length-append, ⊎_elim, ◌⊎◌}
 use Rattle.std.specs.List.{range_with_len}
 use Rattle.std.proofs.Math.ListN.{get_or-append}

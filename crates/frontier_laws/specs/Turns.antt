@@ -20,6 +20,8 @@ use Rattle.state_sums.specs.Networks.{Node, Network, names_of}
 use Rattle.state_sums.specs.StateSums.{states, state_edges}
 use Rattle.arc_gluing.specs.Pairings.{partners_of}
 use Rattle.frontier_laws.specs.Orders.{node_at, taken, open_names}
+use Rattle.arc_pairing.specs.declared.limits.TheConstants.{MOST_POINTS}
+use Rattle.frontier_laws.specs.declared.limits.TheConstants.{MOST_PAIRINGS}
 
 -- For each state, the pairing of the open names by its parts.
 abbrev pub pairings : List Node → List (List ℕ)
@@ -42,8 +44,8 @@ open_count nodes = length (open_names nodes)
 
 -- After the first k nodes no limit is met.
 pub record IsWithinAt (nodes : List Node) (k : ℕ) : Type 0 where
-  pub narrow : open_count (take k nodes) ≤ 24
-  pub few : pairing_count (take k nodes) ≤ 262144
+  pub narrow : open_count (take k nodes) ≤ MOST_POINTS
+  pub few : pairing_count (take k nodes) ≤ MOST_PAIRINGS
 
 -- No step meets a limit.
 abbrev pub IsWithin : List Node → Type 0
@@ -51,14 +53,14 @@ IsWithin nodes = (k : ℕ) → k ≤ length nodes → IsWithinAt nodes k
 
 -- After the last node this many names are open, more than 24, and no step before met a limit.
 pub record IsWideAt (nodes : List Node) (ends : ℕ) : Type 0 where
-  pub wide : 24 < ends
+  pub wide : MOST_POINTS < ends
   pub count : open_count nodes ≡ ends
   pub first : (k : ℕ) → k < length nodes → IsWithinAt nodes k
 
 -- After the last node there are too many pairings, of at most 24 open names, and no step before met a limit.
 pub record IsFullAt (nodes : List Node) : Type 0 where
-  pub narrow : open_count nodes ≤ 24
-  pub full : 262144 < pairing_count nodes
+  pub narrow : open_count nodes ≤ MOST_POINTS
+  pub full : MOST_PAIRINGS < pairing_count nodes
   pub first : (k : ℕ) → k < length nodes → IsWithinAt nodes k
 
 -- After the last node a limit is met, and no step before met one.

@@ -5,5 +5,7 @@
 #![tactic(auto)]
 
 mod laws;
+mod limits;
 
 pub use laws::{one_order, open_names_with, whole_order};
+pub use limits::MOST_PAIRINGS;

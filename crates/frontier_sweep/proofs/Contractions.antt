@@ -1,6 +1,4 @@
 -- A contraction: what holds before each step, and at the end.
---
--- Others cite: IsContractedTo, first, shown, some_left, one_more, stopped, summed.
 use Rattle.std.proofs.Common.{◌≡◌, ◌≢◌, ℕ, ◌+◌, ◌*◌, ◌^◌, ◌%◌, ◌<◌, ◌≤◌, ◌==◌, true, List, [], ◌∷◌, ◌++◌, length, refl, sym, ap, subst, ◌∙◌, arith}
 use Rattle.std.specs.List.{All, range_with_len}
 use Rattle.std.specs.Map.{lookup}

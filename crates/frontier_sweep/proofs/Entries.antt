@@ -1,6 +1,4 @@
 -- What a look-up tells of a table, and what an insertion makes of it.
---
--- Others cite: found_below, none_found, inserted, coefficient_below.
 use Rattle.std.proofs.Common.{◌≡◌, ℕ, ◌<◌, ◌==◌, ◌||◌, Bool, if◌then◌else◌, false, List, Some, None, Option, [], ◌∷◌, true, sym, refl, ap, subst, ◌∙◌, ◌+◌, ◌%◌, arith}
 use Rattle.std.specs.Option.{unwrap_or}
 use Rattle.indexmap.specs.IndexMap.{insert_entry}

@@ -1,8 +1,6 @@
 -- One step of a frontier: what it asks, where it stops, and what it leaves.
---
--- Others cite: place_in_network, taking, range_push, ready, limit, next_frontier.
-use Rattle.std.proofs.Common.{◌≡◌, ℕ, suc, ◌+◌, ◌*◌, ◌<◌, ◌≤◌, ◌==◌, true, List, [], ◌∷◌, ◌++◌, map, take, take_all, length, slice_index, get_or, sym, ap, subst, ◌∙◌, arith}
-use Rattle.std.specs.List.{All, remove, range_with_len}
+use Rattle.std.proofs.Common.{◌≡◌, ℕ, ◌+◌, ◌*◌, ◌<◌, ◌≤◌, ◌==◌, true, List, [], ◌∷◌, ◌++◌, map, take, take_all, length, slice_index, get_or, sym, ap, subst, ◌∙◌, arith}
+use Rattle.std.specs.List.{All, remove}
 use Rattle.std.specs.List.Sorted.{IsStrictlyIncreasing}
 use Rattle.std.specs.Map.{keys_of}
 use Rattle.std.specs.Set.{is_member}
@@ -27,7 +25,6 @@ use Rattle.frontier_laws.proofs.TableLimits.{new_code_fits_at}
 use Rattle.frontier_laws.proofs.TableSteps.{table_after}
 use Rattle.frontier_laws.proofs.Tables.{add_all-append, add_all-below}
 use Rattle.frontier_laws.proofs.TurnSteps.{turns_after, within_after, wide_after, full_after}
-use Rattle.list_lemmas.proofs.Ranges.{range_more, range_push}
 use Rattle.frontier_sweep.specs.Frontiers.{Frontier, IsFrontier, IsLimitAfter}
 use Rattle.frontier_sweep.specs.NotGluedNodes.{Explains}
 use Rattle.frontier_sweep.specs.Steps.{IsReady, IsSeamOf, OverflowsIn, OverflowsAt}

@@ -1,6 +1,4 @@
 -- Remainders of sums, products and powers, and a list that is filled with them.
---
--- Others cite: residue_of_sum, scaled_products, residue_of_power, filled_more, product_of_remainders.
 use Rattle.std.proofs.Common.{◌≡◌, ◌≢◌, length, slice_index, get_or-set_same, get_or-set_other, ℕ, ◌<◌, ◌==◌, Bool, false, List, true, sym, refl, ap, ◌∙◌, ◌+◌, ◌*◌, ◌^◌, ◌%◌, arith}
 use Rattle.std.specs.Prelude.{pos, ◌+ℤ◌, ◌*ℤ◌}
 use Rattle.ring_identities.proofs.PowerLemmas.{power-pos}

@@ -1,6 +1,4 @@
 -- What holds in the loops of a step, pass by pass.
---
--- Others cite: IsGluedTo, glued_more, glued_over, IsGluedToAll, entry_more, entry_over, some_same.
 use Rattle.std.proofs.Common.{◌≡◌, ℕ, ◌+◌, ◌*◌, ◌<◌, ◌≤◌, ◌%◌, ◌==◌, false, List, [], ◌∷◌, ◌++◌, map, take, length, get_or, Some, sym, ap, subst, ◌∙◌, arith}
 use Rattle.std.specs.List.{All}
 use Rattle.std.specs.Map.{keys_of}

@@ -7,9 +7,10 @@ use Rattle.arc_pairing.specs.Gluing.{single_count}
 use Rattle.frontier_sweep.specs.Steps.{OverflowsAt}
 use Rattle.frontier_sweep.specs.declared.fault.NotGlued.{NotGlued}
 use Rattle.frontier_sweep.specs.declared.fault.NotGlued.TheVariants.{Wide, Full, Memory}
+use Rattle.arc_pairing.specs.declared.limits.TheConstants.{MOST_POINTS}
 
 -- More than 24 names would be open, or an entry overflows the next table; want of memory explains itself.
 abbrev pub Explains : ℕ → ℕ → List ℕ → Node → List (ℕ × ℕ) → NotGlued → Type 0
-Explains m delta names node table (Wide ends) = (24 < single_count (names ++ node.ends)) × (ends ≡ single_count (names ++ node.ends))
+Explains m delta names node table (Wide ends) = (MOST_POINTS < single_count (names ++ node.ends)) × (ends ≡ single_count (names ++ node.ends))
 Explains m delta names node table Full = OverflowsAt m delta names node table
 Explains m delta names node table Memory = ⊤

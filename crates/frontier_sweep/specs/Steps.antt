@@ -19,6 +19,8 @@ use Rattle.arc_pairing.specs.Gluing.{Seam}
 use Rattle.arc_pairing.specs.Pairings.{IsShortPairing}
 use Rattle.frontier_laws.specs.Tables.{decoded, add_all, contribution, contributions}
 use Rattle.list_lemmas.specs.Times.{times_in}
+use Rattle.arc_pairing.specs.declared.limits.TheConstants.{MOST_POINTS}
+use Rattle.frontier_laws.specs.declared.limits.TheConstants.{MOST_PAIRINGS}
 
 -- The term pairs the ends of the node, and its weight is below m.
 pub record FitsSeam (m : ℕ) (seam : Seam) (term : Term) : Type 0 where
@@ -30,7 +32,7 @@ pub record Overflows (m : ℕ) (table items : List (ℕ × ℕ)) : Type 0 where
   pub at : ℕ
   pub within : at < length items
   pub new : is_member ◌==◌ (keys_of (add_all m table (take at items))) (get_or items at (0, 0)).0 ≡ false
-  pub full : 262144 ≤ length (add_all m table (take at items))
+  pub full : MOST_PAIRINGS ≤ length (add_all m table (take at items))
 
 -- One of the entries of a table overflows the next one, when the terms are glued to it.
 pub record OverflowsIn (m delta : ℕ) (seam : Seam) (terms : List Term) (table : List (ℕ × ℕ)) : Type 0 where
@@ -50,7 +52,7 @@ pub record IsSeamOf (names ends : List ℕ) (seam : Seam) : Type 0 where
   pub ends_are : seam.ends ≡ ends
   pub outer : AreOpen (names ++ ends) seam.outer
   pub ascending : IsStrictlyIncreasing seam.outer
-  pub narrow : length seam.outer ≤ 24
+  pub narrow : length seam.outer ≤ MOST_POINTS
 
 -- With some seam of the open names and the node, an entry overflows the next table.
 pub record OverflowsAt (m delta : ℕ) (names : List ℕ) (node : Node) (table : List (ℕ × ℕ)) : Type 0 where
@@ -61,12 +63,12 @@ pub record OverflowsAt (m delta : ℕ) (names : List ℕ) (node : Node) (table :
 -- The node can be glued: of its ends and the open names none stands thrice, the codes spell pairings of the open names, all
 -- weights and coefficients are below m, and there is room for the table and the turns.
 pub record IsReady (m : ℕ) (names : List ℕ) (node : Node) (table : List (ℕ × ℕ)) (count : ℕ) : Type 0 where
-  pub few_names : length names ≤ 24
+  pub few_names : length names ≤ MOST_POINTS
   pub increasing : IsStrictlyIncreasing names
   pub few : (x : ℕ) → times_in (names ++ node.ends) x ≤ 2
   pub codes : (i : ℕ) → i < length table → Spells (length names) (get_or table i (0, 0)).0
   pub coefficients : (i : ℕ) → i < length table → (get_or table i (0, 0)).1 < m
   pub weights : All (λ term. term.weight < m) node.terms
   pub some : 0 < m
-  pub few_pairings : length table ≤ 262144
+  pub few_pairings : length table ≤ MOST_PAIRINGS
   pub room : count < 2 ^ 124

@@ -14,7 +14,7 @@ use crate::powers::LoopPowers;
 use crate::step::glue_node;
 use crate::table::Table;
 use crate::view::View;
-use arc_pairing::{Network, Turns};
+use arc_pairing::{MOST_NODES, MOST_POINTS, Network, Turns};
 use arrayvec::ArrayVec;
 use std::alloc::{AllocError, Global};
 use std::marker::Model;
@@ -27,7 +27,7 @@ use std::mem;
 #[derive(Drop)]
 pub(crate) struct Frontier {
     left: Vec<u32>,
-    names: ArrayVec<u32, 24>,
+    names: ArrayVec<u32, MOST_POINTS>,
     table: Table,
     next: Table,
 }
@@ -40,21 +40,9 @@ impl Model for Frontier {
     ghost view = { λ frontier. record { left = frontier.left.items; names = frontier.names.items; table = frontier.table } };
 }
 
-/// An equal list, of at most 24 names.
-fn copied(names: &[u32]) -> ArrayVec<u32, 24>
-    requires { length names.now ≤ 24 }
-    ensures { result.items ≡ names.now }
-{
-    let mut copies = ArrayVec::new();
-    for name in names {
-        copies.push(*name);
-    }
-    copies
-}
-
 /// The places from 0 on, so many.
 fn places(alloc: Global, count: usize) -> Result<Vec<u32>, AllocError>
-    requires { count ≤ 65536 }
+    requires { count ≤ MOST_NODES }
     ensures { IfOk result (λ places. places.items ≡ range_with_len 0 count) }
 {
     let mut places = Vec::with_capacity(alloc, count)?;
@@ -122,7 +110,7 @@ impl Frontier {
         let names = self.names.as_slice();
         let seam = glue_node(powers, names, node, &self.table, &mut self.next, turns)?;
         mem::swap(&mut self.table, &mut self.next);
-        self.names = copied(seam.names());
+        self.names = seam.into_names();
         let index = index_of(&self.left, place);
         self.left.remove(index);
         Ok(())

@@ -10,6 +10,7 @@ ghost use Rattle.frontier_laws.specs.Orders.{node_at, first_least, listed_of, gr
 
 use crate::chooser::Choose;
 use crate::view::View;
+use list_lemmas::count_of;
 
 /// The first of the places at which the measure is least. There is a place.
 fn first_least<F: Fn(u32) -> u64>(places: &[u32], measure: F) -> u32
@@ -30,13 +31,6 @@ fn first_least<F: Fn(u32) -> u64>(places: &[u32], measure: F) -> u32
     best
 }
 
-/// How often the name stands.
-fn times(names: &[u32], name: u32) -> usize
-    ensures { result ≡ times_in names.now name }
-{
-    names.iter().filter(|other| name == **other).count()
-}
-
 /// How many of the names are no ends.
 fn kept_names(names: &[u32], ends: &[u32]) -> usize
     ensures value { result ≡ count_by (λ name. not (is_member ◌==◌ ends.now name)) names.now }
@@ -51,7 +45,7 @@ fn new_names(names: &[u32], ends: &[u32]) -> usize
     ensures bound { result ≤ length ends.now }
 {
     ends.iter()
-        .filter(|end| !names.contains(*end) && times(ends, **end) == 1)
+        .filter(|end| !names.contains(*end) && count_of(ends, **end) == 1)
         .count()
 }
 

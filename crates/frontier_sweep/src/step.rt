@@ -13,8 +13,9 @@ ghost use Rattle.frontier_sweep.specs.Steps.{FitsSeam, Overflows, OverflowsIn, I
 
 use crate::fault::NotGlued;
 use crate::powers::LoopPowers;
-use crate::table::{MOST_PAIRINGS, Table};
+use crate::table::Table;
 use arc_pairing::{Node, Pairing, Seam, Term, Turns, glue};
+use frontier_laws::MOST_PAIRINGS;
 
 /// What a node is glued with: the powers of delta, the seam, and the node's terms.
 #[derive(Clone, Copy)]
@@ -38,10 +39,10 @@ fn glue_terms(
     requires terms { All (FitsSeam step.powers.now.modulus step.seam.now) step.terms.now }
     requires coefficient { coefficient < step.powers.now.modulus }
     requires below { All (λ entry. entry.1 < step.powers.now.modulus) next.old }
-    requires few { length next.old ≤ 262144 }
+    requires few { length next.old ≤ MOST_PAIRINGS }
     requires room { turns.old + length step.terms.now < 2 ^ 125 }
     ensures added { OnOk result (next.new ≡ add_all step.entry.powers.now.modulus next.old (map (glued_item step.entry.powers.now.delta step.entry.seam.now pairing.now coefficient) step.entry.terms.now)) }
-    ensures few { OnOk result (length next.new ≤ 262144) }
+    ensures few { OnOk result (length next.new ≤ MOST_PAIRINGS) }
     ensures turns { OnOk result (turns.new ≡ turns.old + length step.entry.terms.now) }
     ensures narrow { (ends : ℕ) → result ≢ Err (NotGlued.Wide ends) }
     ensures full { result ≡ Err NotGlued.Full →
@@ -71,7 +72,7 @@ pub(crate) fn glue_table(
     requires empty { next.old ≡ [] }
     requires room { turns.old + length table.now * length step.terms.now < 2 ^ 125 }
     ensures added { OnOk result (next.new ≡ add_all step.entry.powers.now.modulus [] (contributions step.entry.powers.now.delta step.entry.seam.now step.entry.terms.now table.now)) }
-    ensures few { OnOk result (length next.new ≤ 262144) }
+    ensures few { OnOk result (length next.new ≤ MOST_PAIRINGS) }
     ensures turns { OnOk result (turns.new ≡ turns.old + length table.now * length step.entry.terms.now) }
     ensures narrow { (ends : ℕ) → result ≢ Err (NotGlued.Wide ends) }
     ensures full { result ≡ Err NotGlued.Full → OverflowsIn step.entry.powers.now.modulus step.entry.powers.now.delta step.entry.seam.now step.entry.terms.now table.now }
@@ -98,7 +99,7 @@ pub(crate) fn glue_node(
     requires { IsReady powers.now.modulus names.now node.now table.now turns.old }
     ensures seam { IfOk result (IsSeamOf names.now node.now.ends) }
     ensures added { IfOk result (λ seam. next.new ≡ add_all powers.now.modulus [] (contributions powers.now.delta seam node.now.terms table.now)) }
-    ensures few { OnOk result (length next.new ≤ 262144) }
+    ensures few { OnOk result (length next.new ≤ MOST_PAIRINGS) }
     ensures turns { OnOk result (turns.new ≡ turns.old + length table.now * length node.now.terms) }
     ensures node { IsShortNode node.now }
     ensures refused { IfErr result (Explains powers.now.modulus powers.now.delta names.now node.now table.now) }

@@ -8,15 +8,13 @@ ghost use Rattle.std.specs.Set.{is_member};
 ghost use Rattle.frontier_laws.specs.Tables.{add_in};
 
 use crate::fault::NotGlued;
+use frontier_laws::MOST_PAIRINGS;
 use indexmap::IndexMap;
 use residue_ring::Ring;
 use std::alloc::{AllocError, Global};
 use std::marker::Model;
 
-/// The most pairings of a table. It lies above 208,012, the number of noncrossing pairings of 24 points.
-pub(crate) const MOST_PAIRINGS: usize = 262_144;
-
-/// The coefficients of at most 262,144 pairings, by their codes, in the order in which they came.
+/// The coefficients of at most `MOST_PAIRINGS` pairings, by their codes, in the order in which they came.
 ///
 /// Contracts see a table as the list of its entries, a code with a coefficient each.
 #[derive(Drop)]
@@ -91,11 +89,11 @@ impl Table {
     pub(crate) fn add(&mut self, ring: &Ring, code: u128, more: u64) -> Result<(), NotGlued>
         requires more { more < ring.now }
         requires below { All (λ entry. entry.1 < ring.now) self.old }
-        requires few { length self.old ≤ 262144 }
+        requires few { length self.old ≤ MOST_PAIRINGS }
         ensures added { OnOk result (self.new ≡ add_in ring.now code more self.old) }
-        ensures few { OnOk result (length self.new ≤ 262144) }
+        ensures few { OnOk result (length self.new ≤ MOST_PAIRINGS) }
         ensures narrow { (ends : ℕ) → result ≢ Err (NotGlued.Wide ends) }
-        ensures full { result ≡ Err NotGlued.Full → (is_member ◌==◌ (keys_of self.old) code ≡ false) × (262144 ≤ length self.old) }
+        ensures full { result ≡ Err NotGlued.Full → (is_member ◌==◌ (keys_of self.old) code ≡ false) × (MOST_PAIRINGS ≤ length self.old) }
     {
         match self.entries.get_mut(&code) {
             Some(coefficient) => *coefficient = ring.add(*coefficient, more),

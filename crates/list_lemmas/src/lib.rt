@@ -4,6 +4,8 @@
 //! are functions with empty bodies in `laws.rt`. The lemmas are in `proofs/`, one notion a file.
 #![tactic(auto)]
 
+mod counting;
 mod laws;
 
+pub use counting::count_of;
 pub use laws::{increasing_lists, permuted_lists};

@@ -1,6 +1,4 @@
 -- A run whose outcome is a report, and in which no stream failed, ends with it or for want of memory.
---
--- Others cite: completes.
 use Rattle.std.proofs.Common.{◌≡◌, ◌≢◌, ◌⊎◌, inl, inr, ℕ, List, Some, Option, refl, subst, sym, Bool, true, false}
 use Rattle.skein_io.specs.Faults.{Rose}
 use Rattle.wrt_commands.specs.declared.status.Status.{Status}

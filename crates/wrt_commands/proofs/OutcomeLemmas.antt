@@ -1,6 +1,4 @@
 -- What a diagram comes to, from what comes of its order and its sweep; and what bytes come to, from what their reading does.
---
--- Others cite: text_outcome, planar_outcome, swept_answer, report_answer.
 use Rattle.std.proofs.Common.{String, Global, ◌≡◌, ◌⊎◌, ◌≤◌, ◌∙◌, ⊎_elim, inl, inr, ℕ, List, length, true, Result, Ok, Err, ap, Some, None, sym}
 use Rattle.std.specs.Prelude.{MatchResult, IfOk, IfErr, string_bytes, if◌then◌else◌}
 use Rattle.state_sums.specs.Networks.{Network}

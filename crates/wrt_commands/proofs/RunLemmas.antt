@@ -1,6 +1,4 @@
 -- How a run without a report ends, from why there is none.
---
--- Others cite: some_bytes, words_refused, bracket_refused, torus_answer, part_law, says_law, runs_refused.
 use Rattle.std.proofs.Common.{String, Global, ◌≡◌, ◌⊎◌, ◌<◌, ◌∙◌, ⊎_elim, inl, inr, ℕ, List, [], length, true, false, Option, Some, None, Result, Ok, Err, refl, ap, sym, subst}
 use Rattle.std.specs.Prelude.{OnOk, MatchResult, string_bytes, take}
 use Rattle.skein_io.specs.Faults.{Rose}

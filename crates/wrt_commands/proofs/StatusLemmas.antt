@@ -1,6 +1,4 @@
 -- Which refusal ends with which status.
---
--- Others cite: status-read_fault.
 use Rattle.std.proofs.Common.{◌≡◌, ◌≢◌, refl}
 use Rattle.pd_reader.specs.declared.fault.TextFault.TheVariants as texts
 use Rattle.wrt_request.specs.declared.fault.WordsFault.TheVariants as words

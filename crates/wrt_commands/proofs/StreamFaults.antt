@@ -1,6 +1,4 @@
 -- No diagram comes to a fault of a stream: an outcome that is a refusal is one of the words, the input or the sweep.
---
--- Others cite: is_of_stream, task_free.
 use Rattle.std.proofs.Common.{inl, inr, ◌≡◌, ℕ, Bool, cond, true, false, List, Option, Some, None, Result, Ok, Err, refl, ap, ◌∙◌}
 use Rattle.root_quantum.specs.Parameters.{Parameters}
 use Rattle.pd_reader.specs.Torus.{torus_items}

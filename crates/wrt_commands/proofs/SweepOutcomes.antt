@@ -1,7 +1,5 @@
 -- What comes of a sweep, from what a contraction says of it. The places that a function of the view takes are the front of
 -- one order of all nodes, so the first step that meets a limit, or that none does, is told by this order.
---
--- Others cite: swept_in, stopped_in.
 use Rattle.std.proofs.Common.{inl, inr, ◌≡◌, ◌⊎◌, ◌||◌, ℕ, zero, suc, ◌+◌, ◌-◌, ◌<◌, ◌≤◌, ⊎_elim, Bool, true, false, List, [], ◌∷◌, length, take, Some, None, Ok, Err, refl, sym, ap, subst, ◌∙◌, arith}
 use Rattle.std.specs.Prelude.{find}
 use Rattle.std.specs.List.{range_with_len}

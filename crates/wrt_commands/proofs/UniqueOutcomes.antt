@@ -1,6 +1,4 @@
 -- Words and bytes come to at most one outcome.
---
--- Others cite: outcomes_are_unique_law, unread_outcome.
 use Rattle.std.proofs.Common.{◌≡◌, ◌≢◌, ◌⊎◌, ◌<◌, ◌∙◌, inl, inr, ℕ, List, length, slice_index, true, false, Some, Result, Ok, Err, refl, sym, ap, subst, arith}
 use Rattle.pd_reader.specs.declared.item.Item.{Item}
 use Rattle.pd_reader.specs.declared.fault.TextFault.{TextFault}

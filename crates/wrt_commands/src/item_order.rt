@@ -8,6 +8,7 @@ ghost use Rattle.wrt_commands.specs.ItemOrders.{is_listing, is_order_of};
 ghost use Rattle.wrt_commands.specs.Outcomes.{crossing_count};
 
 use crate::refusal::Refusal;
+use list_lemmas::count_of;
 use pd_reader::Item;
 use wrt_request::OrderWord;
 
@@ -21,19 +22,12 @@ fn crossings(items: &[Item]) -> usize
         .count()
 }
 
-/// How often the number stands in the list.
-fn times(list: &[u32], number: u32) -> usize
-    ensures { result ≡ times_in list.now number }
-{
-    list.iter().filter(|other| number == **other).count()
-}
-
 /// Whether the list has each of the numbers 1 to `items` once.
 fn has_each_once(items: u32, list: &[u32]) -> bool
     requires { items ≤ 256 }
     ensures { result ≡ list_all (λ item. times_in list.now item == 1) (range_with_len 1 items) }
 {
-    (1..items + 1).all(|item| times(list, item) == 1)
+    (1..items + 1).all(|item| count_of(list, item) == 1)
 }
 
 /// Whether the list has the numbers 1 to `items`, each once, and no other.

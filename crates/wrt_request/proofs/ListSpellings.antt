@@ -1,7 +1,5 @@
 -- A text writes a list exactly where it is the members' spellings with commas between them. The pieces between the commas
 -- of a text are one list; joined again they give the text, and spellings have no comma to be cut at.
---
--- Others cite: lists_law.
 use Rattle.std.proofs.Common.{◌≡◌, ◌∙◌, refl, arith, ap, sym, ◌<◌, ◌^◌, ◌++◌, ℕ, Bool, true, false, List, [], ◌∷◌, length, length-append, map, nat_lt, Option, Some, None}
 use Rattle.std.specs.Prelude.{◌==◌, All, decimal, option_map, option_and_then}
 use Rattle.std.specs.Prelude.{◌&&◌, if◌then◌else◌}

@@ -1,6 +1,4 @@
 -- A number of at most nine digits is below 10^9, and so below 2^32.
---
--- Others cite: member_value-long, member_value-short, member-small.
 use Rattle.std.proofs.Common.{◌≡◌, refl, arith, ◌<◌, ◌≤◌, ◌^◌, ℕ, Bool, true, false, cond, List, length, nat_lt, get_or, Some, None}
 use Rattle.std.specs.Str.Parse.{digits_value}
 use Rattle.std.specs.Str.{all_ascii_digits}

@@ -1,6 +1,4 @@
 -- What std's `parse` reads, where no sign and no needless 0 stands first, is the number that the definition says.
---
--- Others cite: marked_none, plain_parsed.
 use Rattle.std.proofs.Common.{◌≡◌, ◌≢◌, ap, refl, arith, ◌<◌, ◌^◌, ◌&&◌, ◌||◌, not, ℕ, Bool, true, false, cond, ltb, eqb, List, [], ◌∷◌, length, Some, None, Result, Ok, Err, get_or}
 use Rattle.std.specs.Result.{OkIff, result_ok}
 use Rattle.std.specs.Str.{all_ascii_digits}

@@ -1,6 +1,4 @@
 -- A text writes a number exactly where it is the number's decimal spelling.
---
--- Others cite: spelling, spelled, numbers_law.
 use Rattle.std.proofs.Common.{◌≡◌, ◌∙◌, refl, arith, ap, sym, ◌<◌, ◌^◌, ℕ, Bool, true, false, cond, List, length, get_or, Some, None, zero, suc}
 use Rattle.std.specs.Prelude.{decimal}
 use Rattle.std.specs.Str.{all_ascii_digits}

@@ -1,6 +1,4 @@
 -- The walk, one part at a time: where it goes on, and where the first fault stands.
---
--- Others cite: rest-option, rest-order, rest-task, rest-all, request-command, request-numbers, request-rest.
 use Rattle.std.proofs.Common.{◌≡◌, refl, ◌+◌, ℕ, List, Ok, Err}
 use Rattle.wrt_parts.specs.Texts.{Texts}
 use Rattle.wrt_request.specs.Commands.{command_of, own_count, check_options}

@@ -1,6 +1,4 @@
 -- What the getters read is what the definition takes from the rows that `clap` matched.
---
--- Others cite: unwrapped, texts_same.
 use Rattle.std.proofs.Common.{◌≡◌, refl, codes, [], List, Option, Some, None, unwrap_or, map}
 use Rattle.std.specs.Option.{option_map}
 use Rattle.std.specs.Borrow.{Bor}

@@ -1,6 +1,4 @@
 -- The command that the program builds is the one of the definition, and `clap` calls it simple.
---
--- Others cite: app_more, app_simple, app_free.
 use Rattle.std.proofs.Common.{◌≡◌, ◌∙◌, ap₂, refl, true, false}
 use Rattle.clap.specs.Walk.{Rule, rule_of}
 use Rattle.clap.specs.Built.{AddsArg}

@@ -1,6 +1,4 @@
 -- What the words come to, where `clap` has a fault against them and where it has none.
---
--- Others cite: among_some, line_taken, line_refused.
 use Rattle.std.proofs.Common.{◌≡◌, ap, sym, refl, true, false, arith, List, [], ◌∷◌, Some, None}
 use Rattle.clap.specs.Walk.{is_empty}
 use Rattle.clap.specs.Kinds.{IsAmong, Kinds}

@@ -14,12 +14,12 @@ loop-at-preserved c = record {
   taken = digits_then_more c.loop-at.partner c.loop-at.at c.loop-at.rest (omega (arith, c.loop-at.invariant.long)) ∙ c.loop-at.invariant.taken;
 }
 
-pub returns-then-points-gt24-clause-found : goal.returns-then-points-gt24-clause-found
-returns-then-points-gt24-clause-found c = λ p a e. absurd (let k = (code_parts p c.args.code a e).0 in let f = a.short in let t = c.if-points-gt24.true in omega (arith, k, f, t))
+pub returns-then-points-clause-found : goal.returns-then-points-clause-found
+returns-then-points-clause-found c = λ p a e. absurd (let k = (code_parts p c.args.code a e).0 in let f = a.short in let t = c.if-points.true in omega (arith, k, f, t))
 
 pub returns-in-Ok-clause-only : goal.returns-in-Ok-clause-only
 returns-in-Ok-clause-only c =
     let at_end : c.loop-at.at ≡ c.args.code / 1329227995784915872903807060280344576 = omega (arith, c.loop-at-test.false, c.loop-at.auto.at-end) in
     let P : ℕ → Type 0 = λ n. digits_then (take n c.loop-at.partner) c.loop-at.rest ≡ c.args.code % 1329227995784915872903807060280344576 in
     whole_code c.in-Ok.pairing c.loop-at.partner c.args.code (c.args.code / 1329227995784915872903807060280344576) c.loop-at.rest c.in-Ok.ensures.made
-    (let n = c.loop-at.invariant.long in let t = c.if-points-gt24.false in omega (arith, n, t)) refl (let t = c.if-rest-gt0.false in omega (arith, t)) (subst P at_end c.loop-at.invariant.taken)
+    (let n = c.loop-at.invariant.long in let t = c.if-points.false in omega (arith, n, t)) refl (let t = c.if-rest-gt0.false in omega (arith, t)) (subst P at_end c.loop-at.invariant.taken)

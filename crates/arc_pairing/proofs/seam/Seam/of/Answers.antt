@@ -38,7 +38,7 @@ invariant_of-result c =
     let placed : (i : ℕ) → i < length c.slots_of-outer_slots.result.items → slice_index c.places_of-places.result (slice_index c.slots_of-outer_slots.result.items i) ≡ i =
     (let P : List ℕ → Type 0 = λ xs. (i : ℕ) → i < length xs → slice_index c.places_of-places.result (slice_index xs i) ≡ i in subst P c.as_slice-5.ensures.value c.places_of-places.ensures) in
     made_seam names ends found c.copied.result.items c.copied-2.result.items c.copied-3.result.items c.slots_of-end_slots.result.items c.slots_of-outer_slots.result.items c.places_of-places.result
-    c.requires.few_names c.requires.few_ends (let l = c.if-len-gt24.false in let v = c.len.ensures.value in omega (arith, l, v)) c.requires.increasing c.requires.few is_open c.names_once-single.ensures.ascending
+    c.requires.few_names c.requires.few_ends (let l = c.if-len-gt-MOST_POINTS.false in let v = c.len.ensures.value in omega (arith, l, v)) c.requires.increasing c.requires.few is_open c.names_once-single.ensures.ascending
     c.copied.ensures c.copied-2.ensures (c.copied-3.ensures ∙ c.as_slice-6.ensures.value)
     (c.slots_of-end_slots.ensures ∙ ap (λ xs. map (place_in xs) ends) (c.as_slice-2.ensures.value ∙ c.joined-all.ensures))
     (c.slots_of-outer_slots.ensures ∙ ap (λ xs. map (place_in xs) c.as_slice-4.result.now) (c.as_slice-3.ensures.value ∙ c.joined-all.ensures) ∙ ap (map (place_in all)) c.as_slice-4.ensures.value)

@@ -66,6 +66,6 @@ returns-clause-after c order h =
     let turns = glued.turns ∙ ap (λ (table : List (ℕ × ℕ)). c.args.turns.now + length table * length node.terms) table in
     let after = next_frontier m delta network order c.args.self.now c.args.turns.now h c.args.place node taken c.in_ok-seam.seam seam glued.node at in_range here next next_is few c.glue_node.new.turns turns in
     let left_after = c.remove.ensures.items ∙ ap (λ (left : List ℕ). remove left at) left in
-    let names_after = c.copied-self-inside.ensures ∙ c.names.ensures.value in
-    subst (λ (left : List ℕ). IsFrontier m delta network (order ++ c.args.place ∷ []) record { left = left; names = c.copied-self-inside.result.items; table = next } c.glue_node.new.turns) (sym left_after)
+    let names_after = c.into_names-self-inside.ensures in
+    subst (λ (left : List ℕ). IsFrontier m delta network (order ++ c.args.place ∷ []) record { left = left; names = c.into_names-self-inside.result.items; table = next } c.glue_node.new.turns) (sym left_after)
     (subst (λ (names : List ℕ). IsFrontier m delta network (order ++ c.args.place ∷ []) record { left = remove c.args.self.now.left at; names = names; table = next } c.glue_node.new.turns) (sym names_after) after)
