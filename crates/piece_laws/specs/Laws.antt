@@ -16,7 +16,6 @@ use Rattle.piece_laws.specs.Pieces.{IsPiece, ArePaired}
 use Rattle.piece_laws.specs.TurnedNodes.{AreInverse, turned_node, weight_of, without_group}
 
 -- ---- arcs
-
 -- Arcs close: each class of names that arcs join becomes one name, and a class that no other node has becomes a free loop.
 abbrev pub ArcsCloseLaw : Type 0
 ArcsCloseLaw =
@@ -48,7 +47,6 @@ NodeOfArcsLaw =
     SameEverywhere m delta open_names record { nodes = front ++ node ∷ back; free_loops = free } record { nodes = front ++ (arcs_of pairs ++ back); free_loops = free }
 
 -- ---- nodes written in another way
-
 -- Groups change no value and no sum over patterns, and so no coefficient.
 pub record AreWithoutGroups (delta free : ℕ) (nodes others : List Node) : Type 0 where
   pub values : (m : ℕ) → value m delta record { nodes = nodes; free_loops = free } ≡ value m delta record { nodes = others; free_loops = free }
@@ -92,7 +90,6 @@ AnyCornerLaw =
     record { nodes = front ++ crossing (corner_weight k a b) (corner_weight (suc k) a b) w x y z ∷ back; free_loops = free }
 
 -- ---- pieces in networks
-
 -- The order of a piece's nodes does not matter.
 abbrev pub PermutedPieceLaw : Type 0
 PermutedPieceLaw =
@@ -121,7 +118,6 @@ PieceAnywhereLaw =
     ≡ value m delta record { nodes = rename new_name new.nodes ++ rest; free_loops = new.free_loops + more }
 
 -- ---- the plain moves as pieces, at names that are written out
-
 -- A curl counts as its strand times w, which is -a^3.
 abbrev pub CurlCornerLaw : Type 0
 CurlCornerLaw =
@@ -170,7 +166,6 @@ ThirdMoveLaw =
     ≡ value m delta record { nodes = corner k a b s p y z ∷ corner l a b q t x y ∷ corner j a b u r z x ∷ rest; free_loops = free }
 
 -- ---- parameters
-
 -- A, its inverse and delta of any parameters are numbers with which all this holds, and mu_1 and its inverse are the factors of curls.
 pub record AreNumbersOf (p : Parameters) : Type 0 where
   pub skein : AreSkeinNumbers p.modulus p.root (inverse_root p) (loop_value p)
