@@ -1,4 +1,5 @@
 pub mod Least
+pub mod Counts
 pub mod ItemLabels
 pub mod ItemCalls
 pub mod TextTokens

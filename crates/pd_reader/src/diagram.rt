@@ -46,7 +46,7 @@ fn check_items<I: Labelled>(alloc: Global, items: &[I]) -> Result<(), DiagramFau
         return Err(DiagramFault::TooMany { limit: MOST_ITEMS });
     }
     let labels = labels(alloc, items)?;
-    match unpaired(&labels) {
+    match unpaired(alloc, &labels)? {
         Some((label, count)) => Err(DiagramFault::Label {
             label,
             count: count as u32,
