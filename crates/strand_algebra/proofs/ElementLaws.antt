@@ -5,17 +5,17 @@ use Rattle.ring_identities.specs.Residues.{residue, Congruent}
 use Rattle.ring_identities.proofs.Congruences.{congruent_refl, congruent_eq, congruent_sym, congruent_trans, same_residue}
 use Rattle.state_sums.specs.Networks.{Term}
 use Rattle.strand_algebra.specs.Elements.{coefficient, collected, identity, multiply}
-use Rattle.strand_algebra.specs.Laws.{IsNoncrossingOn, CollectedLaw, CollectedCoefficientLaw, ElementLaw, MultiplyAssociativeLaw, IdentityAboveLaw, IdentityBelowLaw}
+use Rattle.strand_algebra.specs.Laws.{IsNoncrossingOn, CollectedTerms, CollectedCoefficients, ElementsByCoefficients, AssociativeElements, IdentityAbove, IdentityBelow}
 use Rattle.strand_algebra.proofs.Collecting.{signed, AreNoncrossingTerms, only_at, coefficient_total, coefficient_below, collected_alike, IsElement-collected, noncrossing_element, same_elements}
 use Rattle.strand_algebra.proofs.PairingLaws.{pairing_of}
 use Rattle.strand_algebra.proofs.FormalSums.{Sum, total, AreAlike, formal_multiply, formal_identity}
 use Rattle.strand_algebra.proofs.Operations.{IsElement-identity, IsElement-multiply, identity_alike, multiply_alike, pairings_of}
 use Rattle.strand_algebra.proofs.PairingAlgebra.{times_alike, assoc_alike, unit_alike, alike_unit}
 
-pub collected_element : CollectedLaw
+pub collected_element : CollectedTerms
 collected_element = IsElement-collected
 
-pub element_collected : ElementLaw
+pub element_collected : ElementsByCoefficients
 element_collected m n x h e = same_elements m n (collected m n x) x h (IsElement-collected m n x h) e (collected_alike m n x h (noncrossing_element m n x e))
 
 noncrossing_from_all : (n : ℕ) (x : List Term) → All (λ term. IsNoncrossingOn n term.partner) x → AreNoncrossingTerms n x
@@ -29,7 +29,7 @@ pub same_mod : (m a b : ℕ) → 0 < m → Congruent m (pos a) (pos b) → a % m
 unfolding residue
 same_mod m a b h c = same_residue h c
 
-pub collected_coefficient : CollectedCoefficientLaw
+pub collected_coefficient : CollectedCoefficients
 collected_coefficient m n x p h f =
     let e = IsElement-collected m n x h in
     sym (mod-eq_of_lt (coefficient_below m n (collected m n x) p h e))
@@ -47,7 +47,7 @@ pub alike_refl : (m : ℕ) (x : Sum) → AreAlike m x x
 alike_refl m x w = congruent_refl m (total x w)
 
 -- THE PRODUCT IS ASSOCIATIVE
-pub multiply_assoc : MultiplyAssociativeLaw
+pub multiply_assoc : AssociativeElements
 multiply_assoc m delta n x y z h ex ey ez =
     let fx = noncrossing_element m n x ex in
     let fy = noncrossing_element m n y ey in
@@ -67,7 +67,7 @@ multiply_assoc m delta n x y z h ex ey ez =
     (alike_trans m _ (times (signed x) (times (signed y) (signed z))) _ (assoc_alike m n (pos delta) (signed x) (signed y) (signed z) (pairings_of n x fx) (pairings_of n y fy) (pairings_of n z fz)) (alike_sym m _ _ right)))
 
 -- THE IDENTITY CHANGES NOTHING
-pub identity_above : IdentityAboveLaw
+pub identity_above : IdentityAbove
 identity_above m delta n x h ex =
     let fx = noncrossing_element m n x ex in
     let ei = IsElement-identity m n h in
@@ -77,7 +77,7 @@ identity_above m delta n x h ex =
     (times_alike m n (pos delta) (signed (identity m n)) (formal_identity n) (signed x) (signed x) (identity_alike m n h) (alike_refl m (signed x)))
     (unit_alike m n (pos delta) (signed x) (pairings_of n x fx))))
 
-pub identity_below : IdentityBelowLaw
+pub identity_below : IdentityBelow
 identity_below m delta n x h ex =
     let fx = noncrossing_element m n x ex in
     let ei = IsElement-identity m n h in

@@ -3,7 +3,7 @@ use Rattle.std.proofs.Common.{◌≡◌, ℕ, ◌==◌, if◌then◌else◌, len
 use Rattle.graph_parts.specs.Parts.{part, part_count}
 use Rattle.ring_identities.specs.Residues.{residue}
 use Rattle.root_quantum.specs.QuantumNumbers.{quantum_number}
-use Rattle.strand_algebra.specs.StrandPairings.{product, product_loops, closure_loops, straight, hooked, widened, mirrored, half_turned}
+use Rattle.strand_algebra.specs.StrandPairings.{product, product_loops, closure_loops, straight, hooked, widened, upside_down, half_turned}
 use Rattle.strand_algebra.specs.Elements.{identity, hook, multiply, beside, scaled, close}
 use Rattle.arc_gluing.specs.Pairings.{partners_of}
 use Rattle.ring_identities.specs.Powers.{IsInverse}
@@ -53,7 +53,7 @@ three_loops : closure_loops 3 (straight 3) ≡ 3
 unfolding part part_count
 three_loops = refl
 
-mirror : mirrored 3 (3 ∷ 2 ∷ 1 ∷ 0 ∷ 5 ∷ 4 ∷ []) ≡ 1 ∷ 0 ∷ 5 ∷ 4 ∷ 3 ∷ 2 ∷ []
+mirror : upside_down 3 (3 ∷ 2 ∷ 1 ∷ 0 ∷ 5 ∷ 4 ∷ []) ≡ 1 ∷ 0 ∷ 5 ∷ 4 ∷ 3 ∷ 2 ∷ []
 mirror = refl
 
 half_turn : half_turned 3 (hooked 3 1) ≡ hooked 3 2

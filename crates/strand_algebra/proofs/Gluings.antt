@@ -31,7 +31,7 @@ use Rattle.arc_gluing.specs.Mates.{IsPairedLabels}
 use Rattle.arc_gluing.specs.Pairings.{pair_edges, partners_of}
 use Rattle.arc_gluing.proofs.ByParts.{partners_of-labels}
 use Rattle.arc_gluing.proofs.Places.{AreOnce, label_partners-is}
-use Rattle.strand_algebra.specs.GluedProducts.{above_name, below_names, above_names, left_names, glued_pairs, GluedProductLaw, GluedClosureLaw}
+use Rattle.strand_algebra.specs.GluedProducts.{above_name, below_names, above_names, left_names, glued_pairs, ProductByGluing, ClosureByGluing}
 use Rattle.strand_algebra.specs.StrandPairings.{seams, stack_names, straight, product, product_loops, closure_loops}
 use Rattle.strand_algebra.proofs.ByLabels.{chosen, IsPairingOf-from_points, IsPairingOn-from_points, pair_edges-pairs, product-labels, product_loops-labels, closure_loops-labels}
 use Rattle.strand_algebra.proofs.Contractions.{named, EndsAre-named, below_range, out_map, in_map}
@@ -280,7 +280,7 @@ module _ (n : ℕ) (p q : List ℕ) (hp : IsPairingOf (n + n) p) (hq : IsPairing
       ∙ counted (map (outer n) (range_with_len 0 (n + n))) (λ x m. let t = out_map (outer n) (n + n) x m in let b = outer_below n t.0 t.1.0 in let e = t.1.1 in omega (arith, b, e)))
       ∙ sym (product_loops-labels n p q hp hq)
 
-pub glued_product : GluedProductLaw
+pub glued_product : ProductByGluing
 glued_product n p q hp hq =
     let a = IsPairingOf-from_points n p hp in
     let b = IsPairingOf-from_points n q hq in
@@ -364,5 +364,5 @@ module _ (n : ℕ) (p : List ℕ) (hp : IsPairingOf (n + n) p) where
       (to_All (λ x. true) all (λ x m. refl))
       ∙ sym (closure_loops-labels n p hp)
 
-pub glued_closure : GluedClosureLaw
+pub glued_closure : ClosureByGluing
 glued_closure n p hp = closed_gluing n p (IsPairingOf-from_points n p hp)

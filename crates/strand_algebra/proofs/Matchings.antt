@@ -91,11 +91,11 @@ Matches-same i j l m e h = record {
 }
 
 -- ---- the edges of a pairing
-least_of : (ℕ → ℕ) → ℕ → ℕ
-least_of m x = if nat_lt x (m x) then x else m x
+lesser_of : (ℕ → ℕ) → ℕ → ℕ
+lesser_of m x = if nat_lt x (m x) then x else m x
 
-kept_plain : (m : ℕ → ℕ) (x y : ℕ) → y ≡ m x → m (m x) ≡ x → least_of m x ≡ least_of m y
-unfolding least_of
+kept_plain : (m : ℕ → ℕ) (x y : ℕ) → y ≡ m x → m (m x) ≡ x → lesser_of m x ≡ lesser_of m y
+unfolding lesser_of
 kept_plain m x y e t = let s : m y ≡ x = ap m e ∙ t in grind (arith, nat_tests)
 
 least_plain : (u v mu mv : ℕ) → (if nat_lt u mu then u else mu) ≡ (if nat_lt v mv then v else mv) → (u == v) ≡ false → (mu == v) ≡ false → (mv == u) ≡ false → mu ≡ mv
@@ -107,19 +107,19 @@ both lu lv u v mu mv one two three four five = let six = least_plain u v mu mv i
 
 module _ (inside : ℕ → Bool) (m : ℕ → ℕ) (es : List (ℕ × ℕ)) (stays : (u : ℕ) → inside u ≡ true → inside (m u) ≡ true) (turns : (u : ℕ) → inside u ≡ true → m (m u) ≡ u) (moves : (u : ℕ) → inside u ≡ true → (m u == u) ≡ false)
     (only : All (λ e. (inside e.0 ≡ true) × (e.1 ≡ m e.0)) es) (has : (u : ℕ) → inside u ≡ true → Contains es (u, m u)) where
-  keeps : All (λ e. least_of m e.0 ≡ least_of m e.1) es
-  unfolding least_of
-  keeps = All-weaker (λ e. (inside e.0 ≡ true) × (e.1 ≡ m e.0)) (λ e. least_of m e.0 ≡ least_of m e.1) (λ e f. kept_plain m e.0 e.1 f.1 (turns e.0 f.0)) es only
+  keeps : All (λ e. lesser_of m e.0 ≡ lesser_of m e.1) es
+  unfolding lesser_of
+  keeps = All-weaker (λ e. (inside e.0 ≡ true) × (e.1 ≡ m e.0)) (λ e. lesser_of m e.0 ≡ lesser_of m e.1) (λ e f. kept_plain m e.0 e.1 f.1 (turns e.0 f.0)) es only
 
   pub Matches-pairs : Matches inside (label_of es) m
-  unfolding least_of
+  unfolding lesser_of
   Matches-pairs = record {
     stays = stays;
     turns = turns;
     moves = moves;
     tells = λ u v p q.
         let tu = turns u p in let tv = turns v q in
-        let one : label_of es u ≡ label_of es v → least_of m u ≡ least_of m v = λ e. keeps_Joined (least_of m) es keeps (Joined-from_labels es u v e) in
+        let one : label_of es u ≡ label_of es v → lesser_of m u ≡ lesser_of m v = λ e. keeps_Joined (lesser_of m) es keeps (Joined-from_labels es u v e) in
         let two : m u ≡ v → label_of es u ≡ label_of es v = λ e. labels-from_Joined es (along (rw e at (has u p))) in
         let three : u ≡ v → label_of es u ≡ label_of es v = λ e. ap (label_of es) e in
         both (label_of es u) (label_of es v) u v (m u) (m v) one two three (swapped_plain m u v tu tv) (λ e. sym tu ∙ ap m e ∙ tv);

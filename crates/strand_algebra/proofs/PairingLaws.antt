@@ -5,7 +5,7 @@ use Rattle.std.proofs.lemmas.Bool.Decides.{nat_tests}
 use Rattle.std.proofs.lemmas.List.Elements.{All-nil, All-cons}
 use Rattle.arc_pairing.specs.Pairings.{IsNoncrossing}
 use Rattle.strand_algebra.specs.StrandPairings.{straight, moved, widened, product, product_loops}
-use Rattle.strand_algebra.specs.Laws.{IsNoncrossingOn, ProductLaw, NoncrossingProductLaw, StraightLaw, HookedLaw, WidenedLaw, AssociativeLaw, UnitLaw, NoncrossingListLaw}
+use Rattle.strand_algebra.specs.Laws.{IsNoncrossingOn, ProductOfPairings, ProductOfNoncrossingPairings, StraightStrands, HookedStrands, OneMoreStrand, AssociativePairings, StraightStrandsChangeNothing, AllNoncrossingPairings}
 use Rattle.strand_algebra.proofs.LabelProducts.{IsPairingOf, hooked_behind, hooked_behind_point, label_product}
 use Rattle.strand_algebra.proofs.ByLabels.{IsPairingOf-from_points, IsPairingOn-from_points, product-labels, product_loops-labels}
 use Rattle.strand_algebra.proofs.Stacks.{IsPairingOf-product}
@@ -24,21 +24,21 @@ pub IsNoncrossingOn-from_points : (n : ℕ) (p : List ℕ) → IsPairingOf (n + 
 IsNoncrossingOn-from_points n p h f = record { pairing = IsPairingOn-from_points n p h; noncrossing = f }
 
 -- ---- products
-pub product_of_pairings : ProductLaw
+pub product_of_pairings : ProductOfPairings
 product_of_pairings n p q hp hq =
     let a = IsPairingOf-from_points n p hp in
     let b = IsPairingOf-from_points n q hq in
     let own = IsPairingOn-from_points n (label_product n p q) (IsPairingOf-product n p q a b) in
     rw (← product-labels n p q a b) at own
 
-pub product_of_noncrossing : NoncrossingProductLaw
+pub product_of_noncrossing : ProductOfNoncrossingPairings
 product_of_noncrossing n p q hp hq =
     let a = pairing_of n p hp in
     let b = pairing_of n q hq in
     let own = IsNoncrossingOn-from_points n (label_product n p q) (IsPairingOf-product n p q a b) (IsNoncrossing-product n p q a b hp.noncrossing hq.noncrossing) in
     rw (← product-labels n p q a b) at own
 
-pub associative : AssociativeLaw
+pub associative : AssociativePairings
 associative n p q r hp hq hr =
     let a = IsPairingOf-from_points n p hp in
     let b = IsPairingOf-from_points n q hq in
@@ -57,7 +57,7 @@ associative n p q r hp hq hr =
           ∙ sym (ap₂ (λ s t. s + t) (product_loops-labels n q r b c) (ap (product_loops n p) (product-labels n q r b c) ∙ product_loops-labels n p (label_product n q r) a qr));
     }
 
-pub keeps_both_sides : UnitLaw
+pub keeps_both_sides : StraightStrandsChangeNothing
 keeps_both_sides n p hp =
     let a = IsPairingOf-from_points n p hp in
     let s = IsPairingOf-straight n in
@@ -69,7 +69,7 @@ keeps_both_sides n p hp =
     }
 
 -- ---- straight strands, hooks, one more strand
-pub straight_noncrossing : StraightLaw
+pub straight_noncrossing : StraightStrands
 straight_noncrossing n =
     IsNoncrossingOn-from_points n (straight n) (IsPairingOf-straight n)
     (λ i j ij jm mm.
@@ -94,7 +94,7 @@ hooked_behind_noncrossing n i h =
     let f = hooked_at n i y b in
     hook_plain n i x y h a b xy (omega (arith, ym, e)) (omega (arith, mm, e, f)))
 
-pub hooked_noncrossing : HookedLaw
+pub hooked_noncrossing : HookedStrands
 hooked_noncrossing n i some below =
     let z : i - 1 + 1 ≡ i = omega arith in
     let h = hooked_behind_noncrossing n (i - 1) (omega arith) in
@@ -103,7 +103,7 @@ hooked_noncrossing n i some below =
 moved_rises : (n i j : ℕ) → moved n i < moved n j → i < j
 moved_rises n i j h = grind (arith, nat_tests, h)
 
-pub widened_noncrossing : WidenedLaw
+pub widened_noncrossing : OneMoreStrand
 widened_noncrossing n p hp =
     let a = pairing_of n p hp in
     let l = a.length_is in
@@ -129,7 +129,7 @@ All-from_each : {X : Type 0} (P Q : X → Type 0) → ((x : X) → P x → Q x) 
 All-from_each P Q h [] p = All-nil Q
 All-from_each P Q h (x ∷ xs) p = All-cons Q x xs (h x p.0) (All-from_each P Q h xs p.1)
 
-pub noncrossing_list : NoncrossingListLaw
+pub noncrossing_list : AllNoncrossingPairings
 noncrossing_list n = record {
   only = All-from_each (listed.IsNoncrossingOf (n + n)) (IsNoncrossingOn n) (λ p h. IsNoncrossingOn-from_points n p h.0 h.1) _ (listed.each_noncrossing n);
   each = λ p h. listed.all_noncrossing n p (pairing_of n p h, h.noncrossing);

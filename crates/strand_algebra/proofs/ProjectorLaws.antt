@@ -12,9 +12,9 @@ use Rattle.ring_identities.proofs.Modulo.{modulos, by_congruences}
 use Rattle.ring_identities.proofs.Unities.{unity_congruent}
 use Rattle.root_quantum.specs.QuantumNumbers.{quantum_number}
 use Rattle.state_sums.specs.Networks.{Term}
-use Rattle.strand_algebra.specs.StrandPairings.{exchanged, mirrored, half_turned}
+use Rattle.strand_algebra.specs.StrandPairings.{exchanged, upside_down, half_turned}
 use Rattle.strand_algebra.specs.Elements.{IsElement, coefficient, identity, hook, add, scaled, multiply, beside, close}
-use Rattle.strand_algebra.specs.Laws.{nothing, ProjectorElementLaw, OneProjectorLaw, FoundProjectorLaw, HookOnProjectorLaw, ProjectorOnHookLaw, SquareLaw, ClosureLaw, MirrorLaw, HalfTurnLaw}
+use Rattle.strand_algebra.specs.Laws.{nothing, ProjectorIsElement, OneProjector, ProjectorFound, HookOnProjector, ProjectorOnHook, ProjectorSquared, ProjectorClosed, ProjectorMirrored, ProjectorHalfTurned}
 use Rattle.strand_algebra.specs.Projectors.{quantum_residue, wenzl_factor, next_projector, projector, AreInverses, inverse_below, inverse_of, found_projector}
 use Rattle.strand_algebra.proofs.ByLabels.{IsPairingOf-from_points}
 use Rattle.strand_algebra.proofs.ClosedProjectors.{own_square, projector_closed}
@@ -45,7 +45,7 @@ IsElement-projector m delta inverse (suc (suc n)) h =
     subst (λ k. IsElement m k (next_projector m delta (wenzl_factor m delta (inverse (suc n)) n) n (projector m delta inverse (suc n)))) s
     (IsElement-next m delta (wenzl_factor m delta (inverse (suc n)) n) n (projector m delta inverse (suc n)) h)
 
-pub projector_element : ProjectorElementLaw
+pub projector_element : ProjectorIsElement
 projector_element m delta n f h p = subst (IsElement m n) (sym p.is) (IsElement-projector m delta p.inverse n h)
 
 -- ---- and is alike to Wenzl's formal sum
@@ -130,7 +130,7 @@ same_projector m delta y z (suc (suc n)) h a b =
     (same_inverse m (quantum_residue m delta (suc n)) (y (suc n)) (z (suc n)) h (a (suc n) (omega arith) (omega arith)) (b (suc n) (omega arith) (omega arith))))
     (same_projector m delta y z (suc n) h (λ k p q. a k p (omega (arith, q))) (λ k p q. b k p (omega (arith, q))))
 
-pub one_projector : OneProjectorLaw
+pub one_projector : OneProjector
 one_projector m delta n f g h p q = p.is ∙ same_projector m delta p.inverse q.inverse n h p.are_inverses q.are_inverses ∙ sym q.is
 
 -- ---- and trying each residue finds it
@@ -152,7 +152,7 @@ inverse_found : (m x y : ℕ) → 0 < m → residue m (pos x *ℤ pos y) ≡ 1 �
 unfolding inverse_of
 inverse_found m x y h e = found_inverse m x (y % m) m (mod-lt y h) (small_inverse m x y h e)
 
-pub projector_found : FoundProjectorLaw
+pub projector_found : ProjectorFound
 unfolding found_projector
 projector_found m delta n f h p =
     p.is ∙ same_projector m delta p.inverse (λ k. inverse_of m (quantum_residue m delta k)) n h p.are_inverses (λ k a b. inverse_found m (quantum_residue m delta k) (p.inverse k) h (p.are_inverses k a b))
@@ -234,11 +234,11 @@ module _ (m delta n : ℕ) (inverse : ℕ → ℕ) (h : 0 < m) (few : n ≤ 8) (
         (congruent_trans (subst (λ j. Congruent m (formal_close j d (formal_projector d y k)) (quantum_number d (suc k))) t (projector_closed m d y k (omega (arith, few)) inverses))
         (congruent_eq (ap (quantum_number d) s))))
 
-pub hook_on_projector : HookOnProjectorLaw
+pub hook_on_projector : HookOnProjector
 hook_on_projector m delta n i f h few p q x =
     subst (λ g. multiply m delta n (hook m n i) g ≡ nothing m n) (sym x.is) (kills m delta n x.inverse h few x.are_inverses (omega (arith, p, q)) i p q)
 
-pub projector_on_hook : ProjectorOnHookLaw
+pub projector_on_hook : ProjectorOnHook
 projector_on_hook m delta n i f h few p q x =
     subst (λ g. multiply m delta n g (hook m n i) ≡ nothing m n) (sym x.is) (killed m delta n x.inverse h few x.are_inverses (omega (arith, p, q)) i p q)
 
@@ -247,7 +247,7 @@ unfolding projector
 square_at m delta zero inverse h few a = identity_above m delta 0 (identity m 0) h (IsElement-identity m 0 h)
 square_at m delta (suc n) inverse h few a = squared m delta (suc n) inverse h few a (omega arith)
 
-pub square : SquareLaw
+pub square : ProjectorSquared
 square m delta n f h few x = subst (λ g. multiply m delta n g g ≡ g) (sym x.is) (square_at m delta n x.inverse h few x.are_inverses)
 
 no_strand : (m delta : ℕ) → 0 < m → Congruent m (pos (close m delta 0 (identity m 0))) (pos 1)
@@ -262,7 +262,7 @@ closed_at m delta zero inverse h few a = no_strand m delta h
 closed_at m delta (suc n) inverse h few a = closed m delta (suc n) inverse h few a (omega arith)
 
 -- THE CLOSURE IS DELTA
-pub closure_value : ClosureLaw
+pub closure_value : ProjectorClosed
 unfolding residue
 closure_value m delta n f h few x =
     let c = closed_at m delta n x.inverse h few x.are_inverses in
@@ -315,7 +315,7 @@ no_points t [] e = refl
 no_points t (x ∷ p) e = absurd (omega (arith, e))
 
 mirror_at : (m delta n : ℕ) (inverse : ℕ → ℕ) (p : List ℕ) → 0 < m → n ≤ 8 → AreInverses m delta inverse n → IsPairingOf (n + n) p →
-    coefficient (projector m delta inverse n) (mirrored n p) ≡ coefficient (projector m delta inverse n) p
+    coefficient (projector m delta inverse n) (upside_down n p) ≡ coefficient (projector m delta inverse n) p
 mirror_at m delta zero inverse p h few a hp = ap (coefficient (projector m delta inverse 0)) (no_points (λ i. 0 + 0 - 1 - i) p hp.length_is)
 mirror_at m delta (suc zero) inverse p h few a hp = ap (coefficient (projector m delta inverse 1)) (one_strand (λ i. 1 + 1 - 1 - i) (mirror_exchange 1) p hp)
 mirror_at m delta (suc (suc n)) inverse p h few a hp =
@@ -330,9 +330,9 @@ mirror_at m delta (suc (suc n)) inverse p h few a hp =
     (projector_mirror m k d y (omega arith) (omega (arith, few)) (inverses_at m delta inverse (suc k) k h refl a))) hp
 
 -- TOP FOR BOTTOM
-pub mirror : MirrorLaw
+pub mirror : ProjectorMirrored
 mirror m delta n f p h few x hp =
-    subst (λ g. coefficient g (mirrored n p) ≡ coefficient g p) (sym x.is) (mirror_at m delta n x.inverse p h few x.are_inverses (IsPairingOf-from_points n p hp))
+    subst (λ g. coefficient g (upside_down n p) ≡ coefficient g p) (sym x.is) (mirror_at m delta n x.inverse p h few x.are_inverses (IsPairingOf-from_points n p hp))
 
 half_at : (m delta n : ℕ) (inverse : ℕ → ℕ) (p : List ℕ) → 0 < m → n ≤ 8 → AreInverses m delta inverse n → IsPairingOf (n + n) p →
     coefficient (projector m delta inverse n) (half_turned n p) ≡ coefficient (projector m delta inverse n) p
@@ -350,6 +350,6 @@ half_at m delta (suc (suc n)) inverse p h few a hp =
     (projector_half m k d y (omega arith) (omega (arith, few)) (inverses_at m delta inverse (suc k) k h refl a))) hp
 
 -- HALF A TURN
-pub half_turn : HalfTurnLaw
+pub half_turn : ProjectorHalfTurned
 half_turn m delta n f p h few x hp =
     subst (λ g. coefficient g (half_turned n p) ≡ coefficient g p) (sym x.is) (half_at m delta n x.inverse p h few x.are_inverses (IsPairingOf-from_points n p hp))

@@ -13,7 +13,7 @@ use Rattle.list_lemmas.proofs.Ranges.{range_increasing}
 use Rattle.list_lemmas.proofs.Times.{times_in-cons, times_in-append}
 use Rattle.arc_gluing.specs.Pairings.{AreOpen}
 use Rattle.list_lemmas.specs.Times.{times_in}
-use Rattle.strand_algebra.specs.GluedProducts.{above_name, below_names, above_names, left_names, SeamLaw}
+use Rattle.strand_algebra.specs.GluedProducts.{above_name, below_names, above_names, left_names, StrandSeam}
 use Rattle.strand_algebra.proofs.Gluings.{glued_name, left_at, left_length}
 use Rattle.strand_algebra.proofs.LabelProducts.{outer}
 
@@ -97,7 +97,7 @@ none_left n [] h = refl
 none_left n (y ∷ ys) h = absurd (let c = times_in-cons y ys y in let e = h.once y in let d = times_doubled n y in grind (arith, nat_tests, c, e, d))
 
 -- THE SEAM
-pub strand_seam : SeamLaw
+pub strand_seam : StrandSeam
 strand_seam n = record {
   increasing = range_increasing 0 (n + n);
   few = few_names n;

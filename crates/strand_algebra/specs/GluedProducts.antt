@@ -7,9 +7,9 @@
 --                              n = 2 they are 3 2 4 5
 --     left_names n             the names that stand once: 0 to n-1 and 2n to 3n-1
 --     glued_pairs n p q        the pairs of q and of p, as edges between these names
---     GluedProductLaw          the pairing of the names that are left is the product, and the closed parts are its loops
---     GluedClosureLaw          a pairing glued to straight strands at all points closes as many parts as its closure has loops
---     SeamLaw                  no name stands more than twice, and what stands once is left, increasing
+--     ProductByGluing          the pairing of the names that are left is the product, and the closed parts are its loops
+--     ClosureByGluing          a pairing glued to straight strands at all points closes as many parts as its closure has loops
+--     StrandSeam               no name stands more than twice, and what stands once is left, increasing
 use Rattle.std.specs.Prelude.{◌≡◌, ℕ, ◌+◌, ◌-◌, ◌≤◌, nat_lt, if◌then◌else◌, List, [], ◌++◌, map}
 use Rattle.std.specs.List.{range_with_len}
 use Rattle.std.specs.List.Sorted.{IsStrictlyIncreasing}
@@ -43,12 +43,12 @@ pub record IsGluedProduct (n : ℕ) (p q : List ℕ) : Type 0 where
   pub pairing : partners_of (below_names n ++ above_names n) (glued_pairs n p q) (left_names n) ≡ product n p q
   pub loops : closed_parts (below_names n ++ above_names n) (glued_pairs n p q) (left_names n) ≡ product_loops n p q
 
-abbrev pub GluedProductLaw : Type 0
-GluedProductLaw = (n : ℕ) (p q : List ℕ) → IsPairingOn n p → IsPairingOn n q → IsGluedProduct n p q
+abbrev pub ProductByGluing : Type 0
+ProductByGluing = (n : ℕ) (p q : List ℕ) → IsPairingOn n p → IsPairingOn n q → IsGluedProduct n p q
 
 -- The loops of a closure.
-abbrev pub GluedClosureLaw : Type 0
-GluedClosureLaw =
+abbrev pub ClosureByGluing : Type 0
+ClosureByGluing =
     (n : ℕ) (p : List ℕ) → IsPairingOn n p →
     closed_parts (below_names n ++ below_names n) (pair_edges (below_names n) p ++ pair_edges (below_names n) (straight n)) [] ≡ closure_loops n p
 
@@ -58,5 +58,5 @@ pub record IsStrandSeam (n : ℕ) : Type 0 where
   pub few : (x : ℕ) → times_in (below_names n ++ above_names n) x ≤ 2
   pub left : (names : List ℕ) → AreOpen (below_names n ++ above_names n) names → IsStrictlyIncreasing names → names ≡ left_names n
 
-abbrev pub SeamLaw : Type 0
-SeamLaw = (n : ℕ) → IsStrandSeam n
+abbrev pub StrandSeam : Type 0
+StrandSeam = (n : ℕ) → IsStrandSeam n

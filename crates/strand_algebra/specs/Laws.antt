@@ -13,7 +13,7 @@ use Rattle.std.specs.List.Sorted.{IsStrictlySortedBy}
 use Rattle.std.specs.Ordering.{nat_cmp}
 use Rattle.arc_pairing.specs.Pairings.{IsNoncrossing}
 use Rattle.state_sums.specs.Networks.{Term}
-use Rattle.strand_algebra.specs.StrandPairings.{IsPairingOn, straight, hooked, widened, product, product_loops, mirrored, half_turned}
+use Rattle.strand_algebra.specs.StrandPairings.{IsPairingOn, straight, hooked, widened, product, product_loops, upside_down, half_turned}
 use Rattle.strand_algebra.specs.Elements.{IsElement, coefficient, collected, identity, hook, multiply, close}
 use Rattle.strand_algebra.specs.Noncrossing.{noncrossing}
 use Rattle.strand_algebra.specs.Projectors.{IsProjector, found_projector, quantum_residue}
@@ -24,30 +24,30 @@ pub record IsNoncrossingOn (n : ℕ) (p : List ℕ) : Type 0 where
   pub noncrossing : IsNoncrossing p
 
 -- A product of pairings is a pairing.
-abbrev pub ProductLaw : Type 0
-ProductLaw = (n : ℕ) (p q : List ℕ) → IsPairingOn n p → IsPairingOn n q → IsPairingOn n (product n p q)
+abbrev pub ProductOfPairings : Type 0
+ProductOfPairings = (n : ℕ) (p q : List ℕ) → IsPairingOn n p → IsPairingOn n q → IsPairingOn n (product n p q)
 
 -- A product of noncrossing pairings is noncrossing.
-abbrev pub NoncrossingProductLaw : Type 0
-NoncrossingProductLaw = (n : ℕ) (p q : List ℕ) → IsNoncrossingOn n p → IsNoncrossingOn n q → IsNoncrossingOn n (product n p q)
+abbrev pub ProductOfNoncrossingPairings : Type 0
+ProductOfNoncrossingPairings = (n : ℕ) (p q : List ℕ) → IsNoncrossingOn n p → IsNoncrossingOn n q → IsNoncrossingOn n (product n p q)
 
 -- Straight strands are noncrossing, and so are a hook and a noncrossing pairing with one more strand.
-abbrev pub StraightLaw : Type 0
-StraightLaw = (n : ℕ) → IsNoncrossingOn n (straight n)
+abbrev pub StraightStrands : Type 0
+StraightStrands = (n : ℕ) → IsNoncrossingOn n (straight n)
 
-abbrev pub HookedLaw : Type 0
-HookedLaw = (n i : ℕ) → 0 < i → i < n → IsNoncrossingOn n (hooked n i)
+abbrev pub HookedStrands : Type 0
+HookedStrands = (n i : ℕ) → 0 < i → i < n → IsNoncrossingOn n (hooked n i)
 
-abbrev pub WidenedLaw : Type 0
-WidenedLaw = (n : ℕ) (p : List ℕ) → IsNoncrossingOn n p → IsNoncrossingOn (n + 1) (widened n p)
+abbrev pub OneMoreStrand : Type 0
+OneMoreStrand = (n : ℕ) (p : List ℕ) → IsNoncrossingOn n p → IsNoncrossingOn (n + 1) (widened n p)
 
 -- Three pairings on one another: which two are put together first does not matter.
 pub record IsAssociative (n : ℕ) (p q r : List ℕ) : Type 0 where
   pub products : product n (product n p q) r ≡ product n p (product n q r)
   pub loops : product_loops n p q + product_loops n (product n p q) r ≡ product_loops n q r + product_loops n p (product n q r)
 
-abbrev pub AssociativeLaw : Type 0
-AssociativeLaw = (n : ℕ) (p q r : List ℕ) → IsPairingOn n p → IsPairingOn n q → IsPairingOn n r → IsAssociative n p q r
+abbrev pub AssociativePairings : Type 0
+AssociativePairings = (n : ℕ) (p q r : List ℕ) → IsPairingOn n p → IsPairingOn n q → IsPairingOn n r → IsAssociative n p q r
 
 -- Straight strands change nothing on either side, and close no loop.
 pub record KeepsBothSides (n : ℕ) (p : List ℕ) : Type 0 where
@@ -56,8 +56,8 @@ pub record KeepsBothSides (n : ℕ) (p : List ℕ) : Type 0 where
   pub below : product n p (straight n) ≡ p
   pub below_loops : product_loops n p (straight n) ≡ 0
 
-abbrev pub UnitLaw : Type 0
-UnitLaw = (n : ℕ) (p : List ℕ) → IsPairingOn n p → KeepsBothSides n p
+abbrev pub StraightStrandsChangeNothing : Type 0
+StraightStrandsChangeNothing = (n : ℕ) (p : List ℕ) → IsPairingOn n p → KeepsBothSides n p
 
 -- The list of noncrossing pairings has each of them once, in dictionary order.
 pub record ListsEachOnce (n : ℕ) : Type 0 where
@@ -65,71 +65,71 @@ pub record ListsEachOnce (n : ℕ) : Type 0 where
   pub each : (p : List ℕ) → IsNoncrossingOn n p → Contains (noncrossing n) p
   pub increasing : IsStrictlySortedBy (slice_cmp nat_cmp) (noncrossing n)
 
-abbrev pub NoncrossingListLaw : Type 0
-NoncrossingListLaw = (n : ℕ) → ListsEachOnce n
+abbrev pub AllNoncrossingPairings : Type 0
+AllNoncrossingPairings = (n : ℕ) → ListsEachOnce n
 
 -- What is collected is an element, with the formal sum's coefficients modulo m, where its pairings are noncrossing.
-abbrev pub CollectedLaw : Type 0
-CollectedLaw = (m n : ℕ) (x : List Term) → 0 < m → IsElement m n (collected m n x)
+abbrev pub CollectedTerms : Type 0
+CollectedTerms = (m n : ℕ) (x : List Term) → 0 < m → IsElement m n (collected m n x)
 
-abbrev pub CollectedCoefficientLaw : Type 0
-CollectedCoefficientLaw = (m n : ℕ) (x : List Term) (p : List ℕ) → 0 < m → All (λ term. IsNoncrossingOn n term.partner) x → coefficient (collected m n x) p ≡ coefficient x p % m
+abbrev pub CollectedCoefficients : Type 0
+CollectedCoefficients = (m n : ℕ) (x : List Term) (p : List ℕ) → 0 < m → All (λ term. IsNoncrossingOn n term.partner) x → coefficient (collected m n x) p ≡ coefficient x p % m
 
 -- An element is the one with its coefficients.
-abbrev pub ElementLaw : Type 0
-ElementLaw = (m n : ℕ) (x : List Term) → 0 < m → IsElement m n x → collected m n x ≡ x
+abbrev pub ElementsByCoefficients : Type 0
+ElementsByCoefficients = (m n : ℕ) (x : List Term) → 0 < m → IsElement m n x → collected m n x ≡ x
 
 -- The product of elements is associative.
-abbrev pub MultiplyAssociativeLaw : Type 0
-MultiplyAssociativeLaw =
+abbrev pub AssociativeElements : Type 0
+AssociativeElements =
     (m delta n : ℕ) (x y z : List Term) → 0 < m → IsElement m n x → IsElement m n y → IsElement m n z →
     multiply m delta n (multiply m delta n x y) z ≡ multiply m delta n x (multiply m delta n y z)
 
 -- The identity changes nothing on either side.
-abbrev pub IdentityAboveLaw : Type 0
-IdentityAboveLaw = (m delta n : ℕ) (x : List Term) → 0 < m → IsElement m n x → multiply m delta n (identity m n) x ≡ x
+abbrev pub IdentityAbove : Type 0
+IdentityAbove = (m delta n : ℕ) (x : List Term) → 0 < m → IsElement m n x → multiply m delta n (identity m n) x ≡ x
 
-abbrev pub IdentityBelowLaw : Type 0
-IdentityBelowLaw = (m delta n : ℕ) (x : List Term) → 0 < m → IsElement m n x → multiply m delta n x (identity m n) ≡ x
+abbrev pub IdentityBelow : Type 0
+IdentityBelow = (m delta n : ℕ) (x : List Term) → 0 < m → IsElement m n x → multiply m delta n x (identity m n) ≡ x
 
 -- All coefficients are 0.
 abbrev pub nothing : ℕ → ℕ → List Term
 nothing m n = collected m n []
 
 -- A projector is an element, and there is only one.
-abbrev pub ProjectorElementLaw : Type 0
-ProjectorElementLaw = (m delta n : ℕ) (f : List Term) → 0 < m → IsProjector m delta n f → IsElement m n f
+abbrev pub ProjectorIsElement : Type 0
+ProjectorIsElement = (m delta n : ℕ) (f : List Term) → 0 < m → IsProjector m delta n f → IsElement m n f
 
-abbrev pub OneProjectorLaw : Type 0
-OneProjectorLaw = (m delta n : ℕ) (f g : List Term) → 0 < m → IsProjector m delta n f → IsProjector m delta n g → f ≡ g
+abbrev pub OneProjector : Type 0
+OneProjector = (m delta n : ℕ) (f g : List Term) → 0 < m → IsProjector m delta n f → IsProjector m delta n g → f ≡ g
 
 -- The projector that is found by trying each residue is it.
-abbrev pub FoundProjectorLaw : Type 0
-FoundProjectorLaw = (m delta n : ℕ) (f : List Term) → 0 < m → IsProjector m delta n f → f ≡ found_projector m delta n
+abbrev pub ProjectorFound : Type 0
+ProjectorFound = (m delta n : ℕ) (f : List Term) → 0 < m → IsProjector m delta n f → f ≡ found_projector m delta n
 
 -- A hook in front of a projector or behind it gives zero.
-abbrev pub HookOnProjectorLaw : Type 0
-HookOnProjectorLaw =
+abbrev pub HookOnProjector : Type 0
+HookOnProjector =
     (m delta n i : ℕ) (f : List Term) → 0 < m → n ≤ 8 → 0 < i → i < n → IsProjector m delta n f → multiply m delta n (hook m n i) f ≡ nothing m n
 
-abbrev pub ProjectorOnHookLaw : Type 0
-ProjectorOnHookLaw =
+abbrev pub ProjectorOnHook : Type 0
+ProjectorOnHook =
     (m delta n i : ℕ) (f : List Term) → 0 < m → n ≤ 8 → 0 < i → i < n → IsProjector m delta n f → multiply m delta n f (hook m n i) ≡ nothing m n
 
 -- A projector is its own square.
-abbrev pub SquareLaw : Type 0
-SquareLaw = (m delta n : ℕ) (f : List Term) → 0 < m → n ≤ 8 → IsProjector m delta n f → multiply m delta n f f ≡ f
+abbrev pub ProjectorSquared : Type 0
+ProjectorSquared = (m delta n : ℕ) (f : List Term) → 0 < m → n ≤ 8 → IsProjector m delta n f → multiply m delta n f f ≡ f
 
 -- Its closure is Delta_n.
-abbrev pub ClosureLaw : Type 0
-ClosureLaw = (m delta n : ℕ) (f : List Term) → 0 < m → n ≤ 8 → IsProjector m delta n f → close m delta n f ≡ quantum_residue m delta n
+abbrev pub ProjectorClosed : Type 0
+ProjectorClosed = (m delta n : ℕ) (f : List Term) → 0 < m → n ≤ 8 → IsProjector m delta n f → close m delta n f ≡ quantum_residue m delta n
 
 -- A pairing and its mirror image, top for bottom, have one coefficient.
-abbrev pub MirrorLaw : Type 0
-MirrorLaw =
-    (m delta n : ℕ) (f : List Term) (p : List ℕ) → 0 < m → n ≤ 8 → IsProjector m delta n f → IsPairingOn n p → coefficient f (mirrored n p) ≡ coefficient f p
+abbrev pub ProjectorMirrored : Type 0
+ProjectorMirrored =
+    (m delta n : ℕ) (f : List Term) (p : List ℕ) → 0 < m → n ≤ 8 → IsProjector m delta n f → IsPairingOn n p → coefficient f (upside_down n p) ≡ coefficient f p
 
 -- So have a pairing and what half a turn makes of it.
-abbrev pub HalfTurnLaw : Type 0
-HalfTurnLaw =
+abbrev pub ProjectorHalfTurned : Type 0
+ProjectorHalfTurned =
     (m delta n : ℕ) (f : List Term) (p : List ℕ) → 0 < m → n ≤ 8 → IsProjector m delta n f → IsPairingOn n p → coefficient f (half_turned n p) ≡ coefficient f p

@@ -21,7 +21,7 @@
 --     product n p q            the outer points of p on q, paired where they lie in one part
 --     product_loops n p q      the parts of p on q without an outer point
 --     closure_loops n p        how many loops there are where point i is joined with point 2n-1-i
---     mirrored n p             top and bottom change places: point i becomes point 2n-1-i
+--     upside_down n p             top and bottom change places: point i becomes point 2n-1-i
 --     half_turned n p          half a turn: point i becomes point i+n, counted modulo 2n
 use Rattle.std.specs.Prelude.{◌≡◌, ℕ, ◌+◌, ◌-◌, ◌==◌, nat_lt, if◌then◌else◌, List, ◌∷◌, ◌++◌, length, map, slice_index, take, drop}
 use Rattle.std.specs.List.{range_with_len}
@@ -96,8 +96,8 @@ abbrev pub exchanged : ℕ → (ℕ → ℕ) → List ℕ → List ℕ
 exchanged n t p = map (λ i. t (slice_index p (t i))) (range_with_len 0 (n + n))
 
 -- Top and bottom change places.
-abbrev pub mirrored : ℕ → List ℕ → List ℕ
-mirrored n p = exchanged n (λ i. n + n - 1 - i) p
+abbrev pub upside_down : ℕ → List ℕ → List ℕ
+upside_down n p = exchanged n (λ i. n + n - 1 - i) p
 
 -- Half a turn: point i becomes point i+n, counted modulo 2n.
 abbrev pub half_turned : ℕ → List ℕ → List ℕ

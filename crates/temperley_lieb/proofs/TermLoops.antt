@@ -1,4 +1,6 @@
--- The loops that collect terms one by one: after i of them, the element is z and the first i terms.
+-- The loops that collect terms one by one: after i of them, the element is z and what f makes of the first i terms of the list,
+-- and after all of them z and the whole list. A term of weight 0 may be passed over. Each loop starts from some z, mostly from
+-- nothing, where it ends at the element that is collected from the list.
 --
 --     IsSumSo m n z f xs i element      the element on n strands that is z and what f makes of the first i terms of xs
 use Rattle.std.proofs.Common.{◌≡◌, ℕ, ◌+◌, ◌%◌, ◌<◌, ◌≤◌, List, [], ◌∷◌, ◌++◌, map, take, take_all, length, get_or, sym, ap, ap₂, ◌∙◌, arith, subst, All}

@@ -9,7 +9,7 @@ use Rattle.std.specs.Prelude.{◌≡◌, ℕ, ◌<◌, List}
 use Rattle.root_quantum.specs.QuantumNumbers.{loop_value, delta}
 use Rattle.strand_algebra.specs.Elements.{coefficient, hook, multiply, close}
 use Rattle.strand_algebra.specs.Laws.{nothing}
-use Rattle.strand_algebra.specs.StrandPairings.{IsPairingOn, mirrored, half_turned}
+use Rattle.strand_algebra.specs.StrandPairings.{IsPairingOn, upside_down, half_turned}
 use Rattle.wenzl_table.specs.Projectors.{Projector}
 
 -- A hook on the projector.
@@ -36,7 +36,7 @@ ClosesToDelta f = close f.params.modulus (loop_value f.params) f.colour f.elemen
 
 -- Top and bottom exchanged.
 abbrev pub IsMirrored : Projector → Type 0
-IsMirrored f = (p : List ℕ) → IsPairingOn f.colour p → coefficient f.element.terms (mirrored f.colour p) ≡ coefficient f.element.terms p
+IsMirrored f = (p : List ℕ) → IsPairingOn f.colour p → coefficient f.element.terms (upside_down f.colour p) ≡ coefficient f.element.terms p
 
 -- Turned by half a turn.
 abbrev pub IsHalfTurned : Projector → Type 0

@@ -9,7 +9,7 @@ ghost use Rattle.temperley_lieb.specs.Elements.{AreBelow, element_of};
 ghost use Rattle.wenzl_table.specs.Inverses.{IsFirstCommon};
 
 use crate::fault::WenzlFault;
-use crate::inverses::inverses;
+use crate::inverses::{FirstCommon, Inverses};
 use crate::projector::Projector;
 use root_quantum::Params;
 use std::alloc::{AllocError, Global};
@@ -77,6 +77,19 @@ fn element_of_colour(
     Ok(element)
 }
 
+/// The projector for the parameters and the colour of these inverses. The only error is want of memory.
+pub(crate) fn projector(alloc: Global, inverses: &Inverses) -> Result<Projector, AllocError>
+    ensures params { IfOk result (λ projector. projector.params ≡ inverses.now.params) }
+    ensures colour { IfOk result (λ projector. projector.colour ≡ inverses.now.colour) }
+{
+    let element = element_of_colour(alloc, &inverses.params, inverses.colour, &inverses.by_index)?;
+    Ok(Projector {
+        params: inverses.params,
+        colour: inverses.colour,
+        element,
+    })
+}
+
 /// The projector of colour n, from 1 to the top colour, by the recursion f^1 = one strand and
 /// f^(n+1) = (f^n beside 1) - (`Delta_(n-1)` / `Delta_n`)(f^n beside 1) e_n (f^n beside 1).
 ///
@@ -91,21 +104,12 @@ pub fn build(alloc: Global, params: &Params, n: u32) -> Result<Projector, WenzlF
     // The inverses are looked for before memory is asked for.
     ensures no_inverse { (index common : ℕ) → (result ≡ Err (WenzlFault.NoInverse index common)) ↔ IsFirstCommon params.now n index common }
 {
-    let inverses = match inverses(params, n) {
+    let inverses = match Inverses::find(params, n) {
         Ok(inverses) => inverses,
-        Err(first) => {
-            return Err(WenzlFault::NoInverse {
-                index: first.index,
-                common: first.common,
-            });
-        }
+        Err(FirstCommon { index, common }) => return Err(WenzlFault::NoInverse { index, common }),
     };
-    match element_of_colour(alloc, params, n, &inverses) {
-        Ok(element) => Ok(Projector {
-            params: *params,
-            colour: n,
-            element,
-        }),
+    match projector(alloc, &inverses) {
+        Ok(projector) => Ok(projector),
         Err(AllocError) => Err(WenzlFault::Memory),
     }
 }

@@ -22,8 +22,12 @@ pub struct Projector {
 
 impl Model for Projector {
     ghost use Rattle.wenzl_table.specs.Projectors;
+    ghost use Rattle.std.specs.Coded.{codes};
+    ghost use Rattle.root_quantum.specs.Parameters.{parameters_code};
 
     ghost Value = { Projectors.Projector };
+
+    ghost coded = { Prim.hlevel (codes, parameters_code) };
 
     ghost view = { λ projector. record { params = projector.params; colour = projector.colour; element = projector.element } };
 

@@ -52,6 +52,44 @@ fn colour_eight(rt: HostRuntime) -> Result<(), Fail> {
     Ok(())
 }
 
+/// Whether it is the one that the cell holds, and of colour 2.
+fn is_shared(found: &Found) -> bool {
+    match found {
+        Found::Shared(projector) => projector.colour() == 2,
+        Found::Own(_) => false,
+    }
+}
+
+#[test]
+fn both_share(rt: HostRuntime) -> Result<(), Fail> {
+    let params = Params::new(41, 2, 5)?;
+    assert!(rt; params.top_colour() >= 4);
+    let table = Table::new(rt.alloc(), params, 4)?;
+    assert!(rt; *table.params() == params && table.top() == 4);
+    let mut mine = table.notes(rt.alloc())?;
+    let mut others = table.notes(rt.alloc())?;
+    let first = is_shared(&table.projector(rt.alloc(), 2, &mut mine)?);
+    let second = is_shared(&table.projector(rt.alloc(), 2, &mut others)?);
+    assert!(rt; first && second);
+    mine.compare(&mut others);
+    Ok(())
+}
+
+#[test]
+fn no_inverse_in_a_table(rt: HostRuntime) -> Result<(), Fail> {
+    let params = Params::new(119, 2, 6)?;
+    assert!(rt; params.top_colour() >= 3);
+    let table = Table::new(rt.alloc(), params, 3)?;
+    let mut notes = table.notes(rt.alloc())?;
+    let refused = table.projector(rt.alloc(), 3, &mut notes).err();
+    let fault = WenzlFault::NoInverse {
+        index: 1,
+        common: 17,
+    };
+    assert_eq!(rt; refused, Some(fault));
+    Ok(())
+}
+
 #[test]
 fn laws(rt: HostRuntime) -> Result<(), Fail> {
     let params = Params::new(41, 2, 5)?;

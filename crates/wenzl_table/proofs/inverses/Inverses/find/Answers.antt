@@ -4,7 +4,7 @@ use Rattle.std.proofs.Math.ListN.{length-set}
 use Rattle.std.proofs.lemmas.Bool.{false≢true}
 use Rattle.root_quantum.specs.QuantumNumbers.{delta}
 use Rattle.wenzl_table.proofs.FoundInverses.{up_to, put_inverse, put_below}
-use Rattle.wenzl_table.proofs.inverses.inverses.Goals as goal
+use Rattle.wenzl_table.proofs.inverses.Inverses.find.Goals as goal
 
 pub returns-in-Err-clause-common : goal.returns-in-Err-clause-common
 returns-in-Err-clause-common c =
@@ -21,7 +21,7 @@ returns-in-Err-clause-common c =
 pub loop-index-preserved : goal.loop-index-preserved
 loop-index-preserved c =
     let p = c.args.params.now in
-    let xs = c.loop-index.inverses in
+    let xs = c.loop-index.by_index in
     let i = c.loop-index.index in
     let found = c.in-Ok.ensures {u = tt} in
     let long = c.loop-index.invariant.long in
@@ -35,3 +35,11 @@ loop-index-preserved c =
 
 pub returns-clause-coprime : goal.returns-clause-coprime
 returns-clause-coprime c = λ k a b. c.loop-index.invariant.coprime k a (omega (arith, b))
+
+pub invariant_of-result : goal.invariant_of-result
+invariant_of-result c = record {
+  some = c.requires.some;
+  top = c.requires.top;
+  inverses = λ k a b. c.loop-index.invariant.inverses k a (omega (arith, b));
+  below = λ k a b. c.loop-index.invariant.below k a (omega (arith, b));
+}
