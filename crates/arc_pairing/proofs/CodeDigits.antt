@@ -1,6 +1,6 @@
 -- Codes: digits to base 32, and what a code tells of its pairing.
 use Rattle.std.proofs.Common.{◌≡◌, ℕ, zero, suc, ◌+◌, ◌-◌, ◌*◌, ◌/◌, ◌%◌, ◌^◌, ◌≤◌, ◌<◌, List, [], ◌∷◌, take, drop, slice_set, ◌++◌, length, slice_index, refl, sym, ap, ◌∙◌, arith, add-one, length-drop}
-use Rattle.arc_pairing.specs.Codes.{code_of, digits_of, CodeLaw}
+use Rattle.arc_pairing.specs.Codes.{code_of, digits_of, OneCodeLaw}
 use Rattle.std.proofs.lemmas.List.{take_more_set, length-take-le}
 use Rattle.arc_pairing.specs.Pairings.{IsShortPairing}
 
@@ -114,7 +114,7 @@ same_digits (x ∷ xs) (y ∷ ys) e h k d =
     let ih = same_digits xs ys (omega arith) (λ i l. h (suc i) (omega arith)) (λ i l. k (suc i) (omega arith)) rest in
     cc
 
-pub same_code : CodeLaw
+pub same_code : OneCodeLaw
 same_code p q hp hq e =
     let a = code_parts p (code_of p) hp refl in
     let b = code_parts q (code_of p) hq e in

@@ -3,7 +3,7 @@
 --
 --     digits_of partner      the number with these digits; of 1,0 it is 1
 --     code_of partner        digits_of partner + 2^120 times the number of points
---     CodeLaw                pairings with one code are one
+--     OneCodeLaw                pairings with one code are one
 use Rattle.std.specs.Prelude.{◌≡◌, ℕ, ◌+◌, ◌*◌, List, [], ◌∷◌, length}
 use Rattle.arc_pairing.specs.Pairings.{IsShortPairing}
 
@@ -17,5 +17,5 @@ abbrev pub code_of : List ℕ → ℕ
 code_of partner = digits_of partner + length partner * 1329227995784915872903807060280344576
 
 -- Pairings with one code are one.
-abbrev pub CodeLaw : Type 0
-CodeLaw = (p q : List ℕ) → IsShortPairing p → IsShortPairing q → code_of p ≡ code_of q → p ≡ q
+abbrev pub OneCodeLaw : Type 0
+OneCodeLaw = (p q : List ℕ) → IsShortPairing p → IsShortPairing q → code_of p ≡ code_of q → p ≡ q

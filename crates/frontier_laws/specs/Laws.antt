@@ -4,7 +4,7 @@
 --                                       `next` gives one for any number of steps
 --     IsFixed answers                   on each view there is one answer at the most
 --     OneOrderEach, OneLimitEach        then the network has one order of answers, and one limit at the most
---     OpenWithLaw                       what the greedy order looks at is how many names are open with one more node
+--     OpenNamesWithLaw                       what the greedy order looks at is how many names are open with one more node
 --     OneOrderLaw, WholeOrderLaw        for every function of a view, and for every order of all nodes
 --     IsOfAll network order             the nodes in this order have the network's value, and no name is open at the end
 use Rattle.std.specs.Prelude.{◌≡◌, ℕ, ◌<◌, List, [], ◌∷◌, ◌++◌, length}
@@ -40,8 +40,8 @@ abbrev pub OneLimitEach : (View → ℕ → Type 0) → Type 0
 OneLimitEach answers = IsFixed answers → (network : Network) (order other : List ℕ) → IsChosen answers network order → IsChosen answers network other → IsOneLimit network order other
 
 -- What the greedy order looks at: with one more node so many names are open.
-abbrev pub OpenWithLaw : Type 0
-OpenWithLaw =
+abbrev pub OpenNamesWithLaw : Type 0
+OpenNamesWithLaw =
     (network : Network) (order : List ℕ) (place : ℕ) → IsNetwork network → IsPartOrder (length network.nodes) (order ++ place ∷ []) →
     open_with (view_after network order) place ≡ open_count (taken network.nodes (order ++ place ∷ []))
 

@@ -1,6 +1,6 @@
 //! The laws of orders: functions with empty bodies, whose contracts are the theorems.
 
-ghost use Rattle.frontier_laws.specs.Laws.{OneOrderLaw, OpenWithLaw, WholeOrderLaw};
+ghost use Rattle.frontier_laws.specs.Laws.{OneOrderLaw, OpenNamesWithLaw, WholeOrderLaw};
 
 /// Where the next node is a function of the view, the order is a function of the network.
 pub fn one_order()
@@ -14,5 +14,5 @@ pub fn whole_order()
 
 /// The greedy order counts the names that are open when a node is taken too.
 pub fn open_names_with()
-    ensures { OpenWithLaw }
+    ensures { OpenNamesWithLaw }
 {}

@@ -27,7 +27,7 @@ use Rattle.wrt_request.specs.declared.request.Task.TheVariants.{Bracket, Torus}
 use Rattle.wrt_request.specs.declared.order.OrderWord.{OrderWord}
 use Rattle.wrt_request.specs.declared.order.OrderWord.TheVariants.{Listed, Greedy, Given}
 use Rattle.wrt_request.specs.declared.option_name.OptionName.TheVariants.{Workers}
-use Rattle.wrt_request.specs.declared.fault.WordsFault.TheVariants.{Takes, Option}
+use Rattle.wrt_request.specs.declared.fault.PartsFault.TheVariants.{Takes, Option}
 use Rattle.wrt_commands.specs.declared.refusal.Refusal.TheVariants.{WordsRefused, Words, Text, NotPlanar, Order}
 use Rattle.wrt_commands.specs.Outcomes.{ended, asks, done, refused, opening, with_parameters, outcome_of, diagram_outcome}
 use Rattle.wrt_commands.proofs.ParametersLemmas.{made_law}

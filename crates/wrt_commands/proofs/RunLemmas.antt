@@ -13,8 +13,8 @@ use Rattle.wrt_words.specs.Words.{parts_of}
 use Rattle.wrt_request.specs.declared.request.Request.{Request}
 use Rattle.wrt_request.specs.declared.request.Task.{Task}
 use Rattle.wrt_request.specs.declared.request.Task.TheVariants.{Bracket, Torus}
-use Rattle.wrt_request.specs.declared.fault.WordsFault.{WordsFault}
-use Rattle.wrt_request.specs.declared.fault.WordsFault.TheVariants as words
+use Rattle.wrt_request.specs.declared.fault.PartsFault.{PartsFault}
+use Rattle.wrt_request.specs.declared.fault.PartsFault.TheVariants as words
 use Rattle.wrt_request.specs.Requests.{request_of}
 use Rattle.wrt_commands.specs.declared.parameters.ParametersFault.{ParametersFault}
 use Rattle.wrt_commands.specs.declared.refusal.Refusal.{Refusal}
@@ -34,13 +34,13 @@ some_bytes (Some bytes) = (bytes, refl)
 abbrev OfWords : Refusal → Type 0
 OfWords refusal =
     (refusal ≡ WordsRefused)
-    ⊎ (((fault : WordsFault) × (refusal ≡ Words fault)) ⊎ ((fault : ParametersFault) × (refusal ≡ ParametersRefused fault)))
+    ⊎ (((fault : PartsFault) × (refusal ≡ Words fault)) ⊎ ((fault : ParametersFault) × (refusal ≡ ParametersRefused fault)))
 
 of_parameters : (request : Request) (found : Result Parameters ParametersFault) (refusal : Refusal) → with_parameters request found ≡ ended refusal → OfWords refusal
 of_parameters request (Ok p) refusal h = absurd (cc)
 of_parameters request (Err fault) refusal h = let e : refusal ≡ ParametersRefused fault = cc in inr (inr (fault, e))
 
-of_request : (found : Result Request WordsFault) (refusal : Refusal) → with_request found ≡ ended refusal → OfWords refusal
+of_request : (found : Result Request PartsFault) (refusal : Refusal) → with_request found ≡ ended refusal → OfWords refusal
 of_request (Ok request) refusal h = of_parameters request (parameters_of request.numbers) refusal h
 of_request (Err fault) refusal h = let e : refusal ≡ Words fault = cc in inr (inl (fault, e))
 

@@ -1,7 +1,7 @@
 -- Which refusal ends with which status.
 use Rattle.std.proofs.Common.{◌≡◌, ◌≢◌, refl}
 use Rattle.pd_reader.specs.declared.fault.TextFault.TheVariants as texts
-use Rattle.wrt_request.specs.declared.fault.WordsFault.TheVariants as words
+use Rattle.wrt_request.specs.declared.fault.PartsFault.TheVariants as words
 use Rattle.wrt_commands.specs.declared.status.Status.TheVariants as statuses
 use Rattle.wrt_commands.specs.declared.refusal.Refusal.{Refusal}
 use Rattle.wrt_commands.specs.declared.refusal.Refusal.TheVariants.{WordsRefused, Words, Parameters, ReadFault, TooLong, Text, NotPlanar, Order, Wide, Table, WriteFault, Memory}

@@ -43,7 +43,7 @@ use Rattle.wrt_request.specs.declared.request.Numbers.{Numbers}
 use Rattle.wrt_request.specs.declared.request.Request.{Request}
 use Rattle.wrt_request.specs.declared.request.Task.{Task}
 use Rattle.wrt_request.specs.declared.request.Task.TheVariants as tasks
-use Rattle.wrt_request.specs.declared.fault.WordsFault.{WordsFault}
+use Rattle.wrt_request.specs.declared.fault.PartsFault.{PartsFault}
 use Rattle.wrt_request.specs.Requests.{request_of}
 use Rattle.wrt_commands.specs.declared.parameters.ParametersFault.{ParametersFault}
 use Rattle.wrt_commands.specs.declared.parameters.ParametersFault.TheVariants as parameters
@@ -85,7 +85,7 @@ with_parameters request (Ok p) = asks p request
 with_parameters request (Err fault) = ended (ParametersRefused fault)
 
 -- What the parts of a command line come to, by the request in them.
-abbrev pub with_request : Result Request WordsFault → Opening
+abbrev pub with_request : Result Request PartsFault → Opening
 with_request (Ok request) = with_parameters request (parameters_of request.numbers)
 with_request (Err fault) = ended (Words fault)
 

@@ -9,7 +9,7 @@
 --                             are reported too
 use Rattle.std.specs.Prelude.{ℕ, List, [], ◌∷◌, ◌++◌, codes, decimal, Option, Some, None}
 use Rattle.pd_reader.specs.declared.fault.TextFault.TheVariants as texts
-use Rattle.wrt_request.specs.declared.fault.WordsFault.TheVariants as words
+use Rattle.wrt_request.specs.declared.fault.PartsFault.TheVariants as words
 use Rattle.wrt_request.specs.Options.{name_of}
 use Rattle.wrt_commands.specs.declared.parameters.ParametersFault.{ParametersFault}
 use Rattle.wrt_commands.specs.declared.parameters.ParametersFault.TheVariants as parameters

@@ -12,8 +12,8 @@ use crate::refusal::Refusal;
 use root_quantum::Params;
 use std::alloc::Global;
 use wrt_parts::Parts;
-use wrt_request::{Request, WordsFault, read_request};
-use wrt_words::{PartsFault, command_line, read_words};
+use wrt_request::{PartsFault, Request, read_request};
+use wrt_words::{WordsFault, command_line, read_words};
 
 /// Parameters, and what is asked for.
 #[derive(Drop)]
@@ -34,7 +34,7 @@ fn open_parts(alloc: Global, parts: &Parts) -> Result<Opened, Refusal>
             Ok(params) => Ok(Opened { params, request }),
             Err(fault) => Err(Refusal::Parameters(fault)),
         },
-        Err(WordsFault::Memory) => Err(Refusal::Memory),
+        Err(PartsFault::Memory) => Err(Refusal::Memory),
         Err(fault) => Err(Refusal::Words(fault)),
     }
 }
@@ -51,7 +51,7 @@ pub(crate) fn open_words(alloc: Global, words: &[&str]) -> Result<Opened, Refusa
     };
     match read_words(alloc, &line) {
         Ok(parts) => open_parts(alloc, &parts),
-        Err(PartsFault::Refused) => Err(Refusal::WordsRefused),
-        Err(PartsFault::Memory) => Err(Refusal::Memory),
+        Err(WordsFault::Refused) => Err(Refusal::WordsRefused),
+        Err(WordsFault::Memory) => Err(Refusal::Memory),
     }
 }

@@ -7,7 +7,7 @@ use crate::parameters::ParametersFault;
 use crate::status::Status;
 use pd_reader::TextFault;
 use std::fmt;
-use wrt_request::WordsFault;
+use wrt_request::PartsFault;
 
 /// A step of the sweep for a colouring, each numbered from 1.
 #[derive(Clone, Copy, Debug, PartialEq, Eq)]
@@ -34,7 +34,7 @@ pub enum Refusal {
     /// value or has one too many, there is no command, or help is asked for.
     WordsRefused,
     /// The words ask for nothing.
-    Words(WordsFault),
+    Words(PartsFault),
     /// M, A and R are no parameters.
     Parameters(ParametersFault),
     /// A read failed.
@@ -64,7 +64,7 @@ impl Refusal {
         ensures { result ≡ status_of self.now }
     {
         match self {
-            Refusal::Words(WordsFault::Memory) => Status::Memory,
+            Refusal::Words(PartsFault::Memory) => Status::Memory,
             Refusal::WordsRefused | Refusal::Words(_) | Refusal::Parameters(_) => Status::Words,
             Refusal::ReadFault => Status::ReadFault,
             Refusal::TooLong | Refusal::Text(TextFault::TooMany { .. }) => Status::Limit,
@@ -84,18 +84,18 @@ impl fmt::Display for Refusal {
     fn fmt<W: fmt::Write>(&self, f: &mut fmt::Formatter<W>) -> fmt::Result {
         match self {
             Refusal::WordsRefused => write!(f, "words refused"),
-            Refusal::Words(WordsFault::UnknownCommand) => write!(f, "unknown command"),
-            Refusal::Words(WordsFault::Takes { numbers }) => {
+            Refusal::Words(PartsFault::UnknownCommand) => write!(f, "unknown command"),
+            Refusal::Words(PartsFault::Takes { numbers }) => {
                 write!(f, "the command takes {numbers} numbers")
             }
-            Refusal::Words(WordsFault::Number { position }) => {
+            Refusal::Words(PartsFault::Number { position }) => {
                 write!(f, "number {position} is not a decimal number below 2^64")
             }
-            Refusal::Words(WordsFault::Option { option }) => {
+            Refusal::Words(PartsFault::Option { option }) => {
                 write!(f, "option --{option} does not belong to this command")
             }
-            Refusal::Words(WordsFault::List { option }) => write!(f, "list of --{option} refused"),
-            Refusal::Words(WordsFault::Crossings) => write!(f, "crossings are 1 to 256"),
+            Refusal::Words(PartsFault::List { option }) => write!(f, "list of --{option} refused"),
+            Refusal::Words(PartsFault::Crossings) => write!(f, "crossings are 1 to 256"),
             Refusal::Parameters(fault) => write!(f, "{fault}"),
             Refusal::ReadFault => write!(f, "read failed"),
             Refusal::TooLong => write!(f, "input is longer than 1048576 bytes"),
@@ -116,7 +116,7 @@ impl fmt::Display for Refusal {
             Refusal::Table { step } => write!(f, "{step} has more than 262144 pairings"),
             Refusal::WriteFault => write!(f, "write failed"),
             Refusal::Memory
-            | Refusal::Words(WordsFault::Memory)
+            | Refusal::Words(PartsFault::Memory)
             | Refusal::Text(TextFault::Memory) => write!(f, "out of memory"),
         }
     }

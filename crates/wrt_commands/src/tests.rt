@@ -1,7 +1,10 @@
 //! Runs over sources and sinks in memory. At modulus 41, A = 2 and level 5 a loop is worth 6. The values are sums
 //! over states, worked by hand and by an independent program.
 
+ghost use Rattle.std.specs.Prelude.{◌≡◌};
+
 use crate::{Status, run};
+use residue_ring::Ring;
 use skein_io::{MemorySink, MemorySource};
 use std::process::Abort;
 use std::test::Fail;
@@ -19,6 +22,10 @@ type Fault = (
 
 /// The left-handed trefoil: 36 bytes.
 const TREFOIL: &[u8] = b"PD[X[1,4,2,5],X[3,6,4,1],X[5,2,6,3]]";
+
+/// The torus knot T(2,15), listed so that 28 names are open after 7 crossings: examples/torus_knot_15.pd.
+const TORUS_KNOT: &[u8] =
+    b"PD[X[2,4,3,1],X[6,8,7,5],X[10,12,11,9],X[14,16,15,13],X[18,20,19,17],X[22,24,23,21],X[26,28,27,25],X[30,2,1,29],X[4,6,5,3],X[8,10,9,7],X[12,14,13,11],X[16,18,17,15],X[20,22,21,19],X[24,26,25,23],X[28,30,29,27]]";
 
 const BRACKET: &[&str] = &["bracket", "41", "2", "5"];
 
@@ -40,7 +47,12 @@ const BRACKETS: [Report; 7] = [
 ];
 
 /// Words in any order that is taken, and the three orders of the crossings.
-const ORDERS: [Report; 9] = [
+const ORDERS: [Report; 10] = [
+    (
+        &["bracket", "41", "2", "5", "--order=greedy"],
+        TORUS_KNOT,
+        b"19\n",
+    ),
     (
         TURNS,
         b"PD[X[1, 4, 2, 5], X[3, 6, 4, 1],\n X[5, 2, 6, 3]]\n",
@@ -151,7 +163,13 @@ const INPUTS: [Fault; 6] = [
 
 /// Lists that are no order of the crossings, and an order in which 7 crossings without a common edge stand
 /// first: after 7 steps 28 names are open.
-const LISTS: [Fault; 6] = [
+const LISTS: [Fault; 7] = [
+    (
+        BRACKET,
+        TORUS_KNOT,
+        Status::Limit,
+        b"wrtcalc: colouring 1: step 7 has 28 open ends\n",
+    ),
     (
         &["bracket", "41", "2", "5", "--order=1,2"],
         TREFOIL,
@@ -359,6 +377,26 @@ fn words_in_any_order(rt: HostRuntime) -> Result<(), Fail> {
 #[test]
 fn torus_links(rt: HostRuntime) -> Result<(), Fail> {
     check_reports(&rt, &TORUS_LINKS)
+}
+
+/// The bracket of the closed braid of two strands with n crossings by Kauffman's formula,
+/// A^n (delta^2 - 1) + (-A^-3)^n, at 41, 2 and 5: 2^n 35 + 5^n. It knows no gluing.
+fn torus_bracket(ring: &Ring, n: u64) -> u64
+    requires { ring.now ≡ 41 }
+{
+    ring.add(ring.mul(35, ring.pow(2, n)), ring.pow(5, n))
+}
+
+#[test]
+fn torus_links_by_formula(rt: HostRuntime) -> Result<(), Fail> {
+    let ring = Ring::new(41)?;
+    for n in 1..257 {
+        let crossings = format!(in rt.alloc(); "{n}")?;
+        let report = format!(in rt.alloc(); "{}\n", torus_bracket(&ring, n))?;
+        let words = ["torus", &crossings, "41", "2", "5"];
+        check(&rt, &words, b"", (Status::Done, report.as_bytes(), b""))?;
+    }
+    Ok(())
 }
 
 #[test]

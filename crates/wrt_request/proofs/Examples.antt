@@ -7,8 +7,8 @@ use Rattle.wrt_request.specs.declared.order.OrderWord.TheVariants.{Listed, Greed
 use Rattle.wrt_request.specs.declared.option_name.OptionName.TheVariants.{Colors, Framing, Workers, Order}
 use Rattle.wrt_request.specs.declared.request.Numbers.{Numbers}
 use Rattle.wrt_request.specs.declared.request.Task.TheVariants.{Bracket, Torus}
-use Rattle.wrt_request.specs.declared.fault.WordsFault.TheVariants as faults
-use Rattle.wrt_request.specs.declared.fault.WordsFault.TheVariants.{UnknownCommand, Takes, Number, Crossings}
+use Rattle.wrt_request.specs.declared.fault.PartsFault.TheVariants as faults
+use Rattle.wrt_request.specs.declared.fault.PartsFault.TheVariants.{UnknownCommand, Takes, Number, Crossings}
 use Rattle.wrt_request.proofs.OnLiterals.{request_on_literals}
 use Rattle.wrt_request.specs.Decimals.{decimal_value}
 use Rattle.wrt_request.specs.Lists.{list_value}

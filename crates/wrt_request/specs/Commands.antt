@@ -17,11 +17,11 @@ use Rattle.wrt_request.specs.declared.command.Command.{Command}
 use Rattle.wrt_request.specs.declared.command.Command.TheVariants.{Bracket, Torus}
 use Rattle.wrt_request.specs.declared.option_name.OptionName.{OptionName}
 use Rattle.wrt_request.specs.declared.option_name.OptionName.TheVariants.{Colors, Framing, Workers, Order, Turns}
-use Rattle.wrt_request.specs.declared.fault.WordsFault.{WordsFault}
-use Rattle.wrt_request.specs.declared.fault.WordsFault.TheVariants as faults
+use Rattle.wrt_request.specs.declared.fault.PartsFault.{PartsFault}
+use Rattle.wrt_request.specs.declared.fault.PartsFault.TheVariants as faults
 
 -- The command of this name.
-abbrev pub command_of : Text → Result Command WordsFault
+abbrev pub command_of : Text → Result Command PartsFault
 command_of name =
     if bytes_eq name (codes "bracket") then Ok Bracket
     else (if bytes_eq name (codes "torus") then Ok Torus else Err faults.UnknownCommand)
@@ -53,10 +53,10 @@ abbrev pub is_foreign : Command → Texts → OptionName → Bool
 is_foreign command texts option = is_given texts option && not (has_option command option)
 
 -- No option is foreign, or the fault of the one that is.
-abbrev pub against_option : Option OptionName → Result (Unit {0}) WordsFault
+abbrev pub against_option : Option OptionName → Result (Unit {0}) PartsFault
 against_option None = Ok tt
 against_option (Some option) = Err (faults.Option option)
 
 -- All options that are given belong to the command, or the fault of the first that doesn't.
-abbrev pub check_options : Command → Texts → Result (Unit {0}) WordsFault
+abbrev pub check_options : Command → Texts → Result (Unit {0}) PartsFault
 check_options command texts = against_option (find (is_foreign command texts) all_options)

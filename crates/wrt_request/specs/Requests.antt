@@ -20,16 +20,16 @@ use Rattle.wrt_request.specs.declared.request.Numbers.{Numbers}
 use Rattle.wrt_request.specs.declared.request.Request.{Request}
 use Rattle.wrt_request.specs.declared.request.Task.{Task}
 use Rattle.wrt_request.specs.declared.request.Task.TheVariants.{Bracket, Torus}
-use Rattle.wrt_request.specs.declared.fault.WordsFault.{WordsFault}
-use Rattle.wrt_request.specs.declared.fault.WordsFault.TheVariants.{Crossings}
+use Rattle.wrt_request.specs.declared.fault.PartsFault.{PartsFault}
+use Rattle.wrt_request.specs.declared.fault.PartsFault.TheVariants.{Crossings}
 
 -- What follows from the part, or the fault of the part.
-abbrev pub after : {A B : Type 0} → Result A WordsFault → (A → Result B WordsFault) → Result B WordsFault
+abbrev pub after : {A B : Type 0} → Result A PartsFault → (A → Result B PartsFault) → Result B PartsFault
 after (Ok part) next = next part
 after (Err fault) next = Err fault
 
 -- What the command asks for with its own numbers: the crossings of `torus` are 1 to 256.
-abbrev pub task_of : Command → List ℕ → Result Task WordsFault
+abbrev pub task_of : Command → List ℕ → Result Task PartsFault
 task_of commands.Bracket numbers = Ok Bracket
 task_of commands.Torus numbers =
     if nat_lt 0 (slice_index numbers 0) && nat_lt (slice_index numbers 0) 257 then Ok (Torus (slice_index numbers 0)) else Err Crossings
@@ -45,13 +45,13 @@ shared_numbers own numbers =
     record { modulus = slice_index numbers own; root = slice_index numbers (own + 1); level = slice_index numbers (own + 2) }
 
 -- The request of a command with its numbers: the options belong to it, the order is one, and the task is.
-unfoldable pub rest_of : Command → List ℕ → Texts → Result Request WordsFault
+unfoldable pub rest_of : Command → List ℕ → Texts → Result Request PartsFault
 rest_of command numbers texts =
     after (check_options command texts) (λ _. after (order_of texts.order) (λ order. after (task_of command numbers) (λ task.
     Ok (record { task = task; numbers = shared_numbers (own_count command) numbers; order = order; turns = texts.turns }))))
 
 -- The request of the parts: the command is one, its numbers are as many as it takes, and the rest holds.
-unfoldable pub request_of : Texts → Result Request WordsFault
+unfoldable pub request_of : Texts → Result Request PartsFault
 request_of texts =
     after (command_of texts.command) (λ command. after (numbers_of (own_count command + 3) texts.numbers) (λ numbers.
     rest_of command numbers texts))

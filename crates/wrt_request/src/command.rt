@@ -4,7 +4,7 @@ ghost use Rattle.std.specs.Prelude.{◌≡◌};
 ghost use Rattle.wrt_parts.specs.Texts.{texts_of};
 ghost use Rattle.wrt_request.specs.Commands.{command_of, own_count, has_option, check_options};
 
-use crate::fault::WordsFault;
+use crate::fault::PartsFault;
 use crate::option_name::OptionName;
 use wrt_parts::Parts;
 
@@ -19,13 +19,13 @@ pub(crate) enum Command {
 
 impl Command {
     /// The command of this name.
-    pub(crate) fn named(name: &str) -> Result<Command, WordsFault>
+    pub(crate) fn named(name: &str) -> Result<Command, PartsFault>
         ensures { result ≡ command_of name.now }
     {
         match name {
             "bracket" => Ok(Command::Bracket),
             "torus" => Ok(Command::Torus),
-            _ => Err(WordsFault::UnknownCommand),
+            _ => Err(PartsFault::UnknownCommand),
         }
     }
 
@@ -51,12 +51,12 @@ impl Command {
     }
 
     /// Whether all options among the parts belong to the command, or the first that doesn't.
-    pub(crate) fn check_options(self, parts: &Parts) -> Result<(), WordsFault>
+    pub(crate) fn check_options(self, parts: &Parts) -> Result<(), PartsFault>
         ensures { result ≡ check_options self (texts_of parts.now) }
     {
         for option in OptionName::ALL {
             if option.is_given(parts) && !self.has_option(option) {
-                return Err(WordsFault::Option { option });
+                return Err(PartsFault::Option { option });
             }
         }
         Ok(())

@@ -1,14 +1,14 @@
 //! Why the parts of a command line ask for nothing.
 
 ghost use Rattle.std.specs.Prelude.{◌≡◌};
-ghost use Rattle.wrt_request.specs.declared.fault.WordsFault.TheVariants.{Memory};
+ghost use Rattle.wrt_request.specs.declared.fault.PartsFault.TheVariants.{Memory};
 
 use crate::option_name::OptionName;
 use std::alloc::{AllocError, AllocFailed};
 
 /// Why the parts of a command line ask for nothing: the first reason that holds, in this order.
 #[derive(Clone, Copy, Debug, PartialEq, Eq)]
-pub enum WordsFault {
+pub enum PartsFault {
     /// The command is none of the program's.
     UnknownCommand,
     /// The command takes so many numbers, and there are more or fewer.
@@ -25,18 +25,18 @@ pub enum WordsFault {
     Memory,
 }
 
-impl From<AllocError> for WordsFault {
+impl From<AllocError> for PartsFault {
     ghost from_gives = { λ _ e. e ≡ Memory };
 
-    fn from(_error: AllocError) -> WordsFault {
-        WordsFault::Memory
+    fn from(_error: AllocError) -> PartsFault {
+        PartsFault::Memory
     }
 }
 
-impl<T: Drop> From<AllocFailed<T>> for WordsFault {
+impl<T: Drop> From<AllocFailed<T>> for PartsFault {
     ghost from_gives = { λ _ e. e ≡ Memory };
 
-    fn from(_error: AllocFailed<T>) -> WordsFault {
-        WordsFault::Memory
+    fn from(_error: AllocFailed<T>) -> PartsFault {
+        PartsFault::Memory
     }
 }

@@ -11,7 +11,7 @@ mod option_name;
 mod order;
 mod request;
 
-pub use fault::WordsFault;
+pub use fault::PartsFault;
 pub use list::NumberList;
 pub use number::decimal;
 pub use option_name::OptionName;

@@ -3,9 +3,9 @@
 ghost use Rattle.std.specs.Prelude.{◌≡◌, ◌≢◌, length, map, IfOk, IfErr, Ok, Err};
 ghost use Rattle.wrt_request.specs.Decimals.{decimal_value, is_marked};
 ghost use Rattle.wrt_request.specs.Numbers.{numbers_of};
-ghost use Rattle.wrt_request.specs.declared.fault.WordsFault.TheVariants.{Memory};
+ghost use Rattle.wrt_request.specs.declared.fault.PartsFault.TheVariants.{Memory};
 
-use crate::fault::WordsFault;
+use crate::fault::PartsFault;
 use std::alloc::Global;
 
 /// Whether `+` stands first, or a `0` that isn't needed.
@@ -33,20 +33,20 @@ pub(crate) fn read_numbers(
     alloc: Global,
     wanted: u32,
     texts: &[&str],
-) -> Result<Vec<u64>, WordsFault>
+) -> Result<Vec<u64>, PartsFault>
     ensures numbers { IfOk result (λ numbers. numbers_of wanted (map (λ s. s.now) texts.now) ≡ Ok numbers.items) }
     ensures fault { IfErr result (λ fault. fault ≢ Memory → numbers_of wanted (map (λ s. s.now) texts.now) ≡ Err fault) }
     ensures as_many { IfOk result (λ numbers. length numbers.items ≡ wanted) }
 {
     if texts.len() != wanted as usize {
-        return Err(WordsFault::Takes { numbers: wanted });
+        return Err(PartsFault::Takes { numbers: wanted });
     }
     let mut numbers = Vec::new(alloc);
     for text in texts {
         match decimal(text) {
             Some(number) => numbers.push(number)?,
             None => {
-                return Err(WordsFault::Number {
+                return Err(PartsFault::Number {
                     position: numbers.len() as u32 + 1,
                 });
             }

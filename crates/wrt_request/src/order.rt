@@ -2,9 +2,9 @@
 
 ghost use Rattle.std.specs.Prelude.{◌≡◌, ◌≢◌, IfOk, IfErr, Ok, Err, option_map};
 ghost use Rattle.wrt_request.specs.Orders.{order_of};
-ghost use Rattle.wrt_request.specs.declared.fault.WordsFault.TheVariants.{Memory};
+ghost use Rattle.wrt_request.specs.declared.fault.PartsFault.TheVariants.{Memory};
 
-use crate::fault::WordsFault;
+use crate::fault::PartsFault;
 use crate::list::{NumberList, read_list};
 use crate::option_name::OptionName;
 use std::alloc::Global;
@@ -21,7 +21,7 @@ pub enum OrderWord {
 }
 
 /// The order that the value of `--order` says, or that is taken without the option.
-pub(crate) fn read_order(alloc: Global, value: Option<&str>) -> Result<OrderWord, WordsFault>
+pub(crate) fn read_order(alloc: Global, value: Option<&str>) -> Result<OrderWord, PartsFault>
     ensures order { IfOk result (λ order. order_of (option_map (λ s. s.now) value.entry) ≡ Ok order) }
     ensures fault { IfErr result (λ fault. fault ≢ Memory → order_of (option_map (λ s. s.now) value.entry) ≡ Err fault) }
 {
@@ -33,7 +33,7 @@ pub(crate) fn read_order(alloc: Global, value: Option<&str>) -> Result<OrderWord
         "greedy" => Ok(OrderWord::Greedy),
         _ => match read_list(alloc, text)? {
             Some(list) => Ok(OrderWord::Given(list)),
-            None => Err(WordsFault::List {
+            None => Err(PartsFault::List {
                 option: OptionName::Order,
             }),
         },

@@ -4,10 +4,10 @@ ghost use Rattle.std.specs.Prelude.{◌≡◌, ◌≢◌, ◌+◌, length, Ok, E
 ghost use Rattle.wrt_parts.specs.Texts.{texts_of};
 ghost use Rattle.wrt_request.specs.Commands.{own_count};
 ghost use Rattle.wrt_request.specs.Requests.{IsInRange, request_of, rest_of, shared_numbers, task_of};
-ghost use Rattle.wrt_request.specs.declared.fault.WordsFault.TheVariants.{Memory};
+ghost use Rattle.wrt_request.specs.declared.fault.PartsFault.TheVariants.{Memory};
 
 use crate::command::Command;
-use crate::fault::WordsFault;
+use crate::fault::PartsFault;
 use crate::number::read_numbers;
 use crate::order::{OrderWord, read_order};
 use std::alloc::Global;
@@ -47,7 +47,7 @@ pub struct Request {
 }
 
 /// What the command asks for with its own numbers.
-fn read_task(command: Command, numbers: &[u64]) -> Result<Task, WordsFault>
+fn read_task(command: Command, numbers: &[u64]) -> Result<Task, PartsFault>
     requires { length numbers.now ≡ own_count command + 3 }
     ensures value { result ≡ task_of command numbers.now }
     ensures in_range { IfOk result (λ task. IsInRange task) }
@@ -58,7 +58,7 @@ fn read_task(command: Command, numbers: &[u64]) -> Result<Task, WordsFault>
             crossings @ 1..=256 => Ok(Task::Torus {
                 crossings: crossings as u32,
             }),
-            _ => Err(WordsFault::Crossings),
+            _ => Err(PartsFault::Crossings),
         },
     }
 }
@@ -82,7 +82,7 @@ fn read_rest(
     command: Command,
     numbers: &[u64],
     parts: &Parts,
-) -> Result<Request, WordsFault>
+) -> Result<Request, PartsFault>
     requires { length numbers.now ≡ own_count command + 3 }
     ensures request { IfOk result (λ request. rest_of command numbers.now (texts_of parts.now) ≡ Ok request) }
     ensures fault { IfErr result (λ fault. fault ≢ Memory → rest_of command numbers.now (texts_of parts.now) ≡ Err fault) }
@@ -101,9 +101,9 @@ fn read_rest(
 
 /// What the parts of a command line ask for, or the first reason against them. `Memory` is want of
 /// memory, and may stand in place of any other answer.
-pub fn read_request(alloc: Global, parts: &Parts) -> Result<Request, WordsFault>
+pub fn read_request(alloc: Global, parts: &Parts) -> Result<Request, PartsFault>
     ensures request { IfOk result (λ request. request_of (texts_of parts.now) ≡ Ok request) }
-    ensures fault { IfErr result (λ fault. fault ≢ WordsFault.Memory → request_of (texts_of parts.now) ≡ Err fault) }
+    ensures fault { IfErr result (λ fault. fault ≢ PartsFault.Memory → request_of (texts_of parts.now) ≡ Err fault) }
 
     // The crossings that are asked for are 1 to 256.
     ensures in_range { IfOk result (λ request. IsInRange request.task) }

@@ -1,6 +1,6 @@
 //! Worked rows: parts of command lines, and what they ask for.
 
-use crate::{Numbers, OptionName, OrderWord, Task, WordsFault, read_request};
+use crate::{Numbers, OptionName, OrderWord, PartsFault, Task, read_request};
 use std::alloc::{AllocError, Global};
 use std::test::Fail;
 use wrt_parts::Parts;
@@ -50,26 +50,26 @@ const ASKED: [(Words, Task, Wanted); 6] = [
 ];
 
 /// Words, and the first reason against them.
-const REFUSED: [(Words, WordsFault); 14] = [
-    (("", &[], None), WordsFault::UnknownCommand),
-    (("knot", &["x"], Some("x")), WordsFault::UnknownCommand),
-    (("bracket", &[], None), WordsFault::Takes { numbers: 3 }),
-    (("torus", &AT_41, None), WordsFault::Takes { numbers: 4 }),
+const REFUSED: [(Words, PartsFault); 14] = [
+    (("", &[], None), PartsFault::UnknownCommand),
+    (("knot", &["x"], Some("x")), PartsFault::UnknownCommand),
+    (("bracket", &[], None), PartsFault::Takes { numbers: 3 }),
+    (("torus", &AT_41, None), PartsFault::Takes { numbers: 4 }),
     (
         ("bracket", &["041", "2", "5"], None),
-        WordsFault::Number { position: 1 },
+        PartsFault::Number { position: 1 },
     ),
     (
         ("bracket", &["41", "2", ""], Some("x")),
-        WordsFault::Number { position: 3 },
+        PartsFault::Number { position: 3 },
     ),
     (
         ("bracket", &["41", "+2", "5"], None),
-        WordsFault::Number { position: 2 },
+        PartsFault::Number { position: 2 },
     ),
     (
         ("torus", &["0", "41", "2", "18446744073709551616"], None),
-        WordsFault::Number { position: 4 },
+        PartsFault::Number { position: 4 },
     ),
     (("bracket", &AT_41, Some("Greedy")), NO_ORDER),
     (("bracket", &AT_41, Some("1,,2")), NO_ORDER),
@@ -78,12 +78,12 @@ const REFUSED: [(Words, WordsFault); 14] = [
     (("torus", &["0", "41", "2", "5"], Some("01")), NO_ORDER),
     (
         ("torus", &["0", "41", "2", "5"], None),
-        WordsFault::Crossings,
+        PartsFault::Crossings,
     ),
 ];
 
 /// The value of `--order` is none.
-const NO_ORDER: WordsFault = WordsFault::List {
+const NO_ORDER: PartsFault = PartsFault::List {
     option: OptionName::Order,
 };
 
@@ -144,7 +144,7 @@ fn foreign_options_are_named(rt: HostRuntime) -> Result<(), Fail> {
     parts.turns = true;
     assert!(rt; read_request(rt.alloc(), &parts)?.turns);
     parts.workers = Some("2");
-    let foreign = |option| Some(WordsFault::Option { option });
+    let foreign = |option| Some(PartsFault::Option { option });
     assert_eq!(rt;
         read_request(rt.alloc(), &parts).err(),
         foreign(OptionName::Workers)

@@ -19,8 +19,8 @@ use Rattle.wrt_parts.specs.Texts.{Text, Texts, texts_of}
 use Rattle.wrt_parts.specs.declared.parts.Parts.{Parts}
 use Rattle.wrt_words.specs.Program.{program_app}
 use Rattle.wrt_words.specs.Matched.{texts_in}
-use Rattle.wrt_words.specs.declared.fault.PartsFault.{PartsFault}
-use Rattle.wrt_words.specs.declared.fault.PartsFault.TheVariants.{Refused, Memory}
+use Rattle.wrt_words.specs.declared.fault.WordsFault.{WordsFault}
+use Rattle.wrt_words.specs.declared.fault.WordsFault.TheVariants.{Refused, Memory}
 
 -- The word `wrtcalc`, and then the words.
 abbrev pub command_line : List Text → List Text
@@ -47,7 +47,7 @@ abbrev pub parts_of : List Text → Option Texts
 parts_of words = line_texts (command_line words)
 
 -- The call answers with these parts, or refuses where there are none; memory may be wanting at any words.
-abbrev pub AnswersWords : Option Texts → Result Parts PartsFault → Type 0
+abbrev pub AnswersWords : Option Texts → Result Parts WordsFault → Type 0
 AnswersWords texts (Ok parts) = texts ≡ Some (texts_of parts)
 AnswersWords texts (Err Refused) = texts ≡ None
 AnswersWords texts (Err Memory) = Unit {0}

@@ -2,7 +2,7 @@
 
 /// Why words have no parts.
 #[derive(Clone, Copy, Debug, PartialEq, Eq)]
-pub enum PartsFault {
+pub enum WordsFault {
     /// `clap` doesn't take the words: an option is unknown, stands twice, lacks its value or has one too
     /// many, there is no command, or help is asked for.
     Refused,

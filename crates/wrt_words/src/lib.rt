@@ -9,7 +9,7 @@ mod matched;
 mod program;
 mod words;
 
-pub use fault::PartsFault;
+pub use fault::WordsFault;
 pub use words::{command_line, read_words};
 
 #[cfg(test)]

@@ -1,6 +1,6 @@
 //! Worked rows: words, and the parts that `clap` takes from them.
 
-use crate::{PartsFault, command_line, read_words};
+use crate::{WordsFault, command_line, read_words};
 use std::test::Fail;
 
 /// A command, its numbers, the values of `--colors`, `--framing`, `--workers` and `--order`, and whether
@@ -96,7 +96,7 @@ fn taken_words_have_their_parts(rt: HostRuntime) -> Result<(), Fail> {
 fn other_words_are_refused(rt: HostRuntime) -> Result<(), Fail> {
     for words in REFUSED {
         let line = command_line(rt.alloc(), words)?;
-        let refused = matches!(read_words(rt.alloc(), &line), Err(PartsFault::Refused));
+        let refused = matches!(read_words(rt.alloc(), &line), Err(WordsFault::Refused));
         assert!(rt; refused);
     }
     Ok(())
