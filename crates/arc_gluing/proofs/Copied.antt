@@ -11,7 +11,7 @@ use Rattle.graph_parts.proofs.Ends.{is_member-get_or}
 use Rattle.graph_parts.specs.Labels.{label_of, label_count}
 use Rattle.state_sums.specs.Networks.{IsPairing}
 use Rattle.arc_gluing.specs.Mates.{mates_after, pairs_below, IsMated}
-use Rattle.arc_gluing.specs.Seams.{IsLeft}
+use Rattle.arc_gluing.specs.Seams.{AreOpenBehind}
 use Rattle.list_lemmas.proofs.Items.{member_at}
 use Rattle.list_lemmas.specs.Times.{times_in}
 use Rattle.graph_parts.specs.Ends.{ends_of}
@@ -28,7 +28,7 @@ IsMated-same times mate other label h e = record {
   only = λ x y p q t d. h.only x y p q t d ∙ sym (e x p);
 }
 
-module _ (names ends left old : List ℕ) (rest : List (ℕ × ℕ)) (po : IsPairing old) (lo : length old ≡ length names) (h : IsLeft names ends left)
+module _ (names ends left old : List ℕ) (rest : List (ℕ × ℕ)) (po : IsPairing old) (lo : length old ≡ length names) (h : AreOpenBehind names ends left)
     (rest_ends : (x : ℕ) → times_in (ends_of rest) x ≡ times_in ends x) (single : (x : ℕ) → times_in names x ≤ 1) where
   abbrev ps : List (ℕ × ℕ)
   ps = pairs_below names old (length old)

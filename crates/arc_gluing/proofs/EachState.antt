@@ -10,7 +10,7 @@ use Rattle.state_sums.specs.Networks.{Node, IsNode, IsPairing, names_of}
 use Rattle.state_sums.specs.StateSums.{term_edges}
 use Rattle.arc_gluing.specs.Laws.{AreFew}
 use Rattle.arc_gluing.specs.Pairings.{AreOpen}
-use Rattle.arc_gluing.specs.Seams.{IsLeft}
+use Rattle.arc_gluing.specs.Seams.{AreOpenBehind}
 use Rattle.arc_gluing.proofs.Choices.{AllChoices, AllChoices-weaker, AllChoices-append}
 use Rattle.arc_gluing.proofs.OneNode.{IsChoice, next_choice}
 use Rattle.list_lemmas.specs.Times.{times_in}
@@ -34,7 +34,7 @@ AreOpen-open_names_in names = record { once = λ x. let f = times_in-filter (λ 
 
 -- ---- from the names that are open before a node to those that are open after it
 pub left_between : (nodes : List Node) (node : Node) (inner outer : List ℕ) → AreFew (nodes ++ node ∷ []) → AreOpen (names_of nodes) inner → AreOpen (names_of (nodes ++ node ∷ [])) outer →
-    IsLeft inner node.ends outer
+    AreOpenBehind inner node.ends outer
 left_between nodes node inner outer few open_in open_out = record {
   few = λ x. let a = few x in let b = times_in-more nodes node x in let c = open_in.once x in grind (arith, nat_tests, a, b, c);
   once = λ x. let a = few x in let b = times_in-more nodes node x in let c = open_in.once x in let d = open_out.once x in grind (arith, nat_tests, a, b, c, d);

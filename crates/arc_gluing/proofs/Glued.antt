@@ -23,7 +23,7 @@ use Rattle.graph_parts.specs.Patterns.{label_closed}
 use Rattle.state_sums.specs.Networks.{IsPairing}
 use Rattle.arc_gluing.specs.Mates.{mates_after, loops_after, pairs_below, IsMated, IsPairedLabels}
 use Rattle.arc_gluing.specs.Pairings.{pair_edges}
-use Rattle.arc_gluing.specs.Seams.{IsLeft}
+use Rattle.arc_gluing.specs.Seams.{AreOpenBehind}
 use Rattle.list_lemmas.proofs.Times.{times_of_member}
 use Rattle.list_lemmas.specs.Times.{times_in}
 
@@ -55,7 +55,7 @@ all_pass : (xs : List ℕ) → AllPass (λ x. true) xs
 all_pass [] = All-nil (λ x. true ≡ true)
 all_pass (x ∷ xs) = All-cons (λ x. true ≡ true) x xs refl (all_pass xs)
 
-module _ (names ends left old term : List ℕ) (po : IsPairing old) (pt : IsPairing term) (lo : length old ≡ length names) (lt : length term ≡ length ends) (h : IsLeft names ends left)
+module _ (names ends left old term : List ℕ) (po : IsPairing old) (pt : IsPairing term) (lo : length old ≡ length names) (lt : length term ≡ length ends) (h : AreOpenBehind names ends left)
     (single : (x : ℕ) → times_in names x ≤ 1) (mate : ℕ → ℕ)
     (start : IsMated (times_in (ends_of (pairs_below ends term (length term)) ++ left)) mate (label_of (pairs_below names old (length old)))) where
   abbrev pub half : List (ℕ × ℕ)

@@ -19,7 +19,7 @@ use Rattle.state_sums.proofs.Sums.{total, total_is, total-append}
 use Rattle.arc_gluing.specs.Laws.{AreFew, PairedStatesLaw, OnePairingLaw, IsGluedTo, GluedNodeLaw, OneMoreNodeLaw, WholeNetworkLaw}
 use Rattle.arc_gluing.specs.Mates.{label_partners}
 use Rattle.arc_gluing.specs.Pairings.{pair_edges, IsPairedBy, partners_of, AreOpen}
-use Rattle.arc_gluing.specs.Seams.{IsLeft}
+use Rattle.arc_gluing.specs.Seams.{AreOpenBehind}
 use Rattle.arc_gluing.specs.Sums.{pairing_sum, worth_before}
 use Rattle.list_lemmas.specs.Times.{times_in}
 use Rattle.arc_gluing.proofs.ByParts.{IsPairedBy-from_labels, IsPairedLabels-from_walks, partners_of-labels}
@@ -97,7 +97,7 @@ module _ (nodes : List Node) (node : Node) (inner outer : List ℕ) (few : AreFe
   few2 : (x : ℕ) → times_in (names_of nodes) x + times_in node.ends x ≤ 2
   few2 = few_between nodes node few
 
-  out : IsLeft inner node.ends outer
+  out : AreOpenBehind inner node.ends outer
   out = left_between nodes node inner outer few open_in open_out
 
   wide_inside : AreAmong (names_of nodes ++ node.ends) (es ++ pair_edges node.ends term)

@@ -19,7 +19,7 @@ use Rattle.graph_parts.specs.Labels.{label_of}
 use Rattle.arc_gluing.proofs.Copied.{stepped}
 use Rattle.arc_gluing.specs.Mates.{mates_after, pairs_below, IsMated, IsPairedLabels, label_partners}
 use Rattle.arc_gluing.specs.Pairings.{pair_edges, AreOpen}
-use Rattle.arc_gluing.specs.Seams.{IsLeft, place_in}
+use Rattle.arc_gluing.specs.Seams.{AreOpenBehind, place_in}
 use Rattle.list_lemmas.specs.Times.{times_in}
 
 -- a choice pairs the open names
@@ -30,7 +30,7 @@ pub record IsChoice (names open_names : List ℕ) (es : List (ℕ × ℕ)) : Typ
 pub AreOnce-open : (names open_names : List ℕ) → AreOpen names open_names → AreOnce open_names
 AreOnce-open names open_names h = AreOnce-from_times open_names (λ x. let k = h.once x in grind (arith, nat_tests, k))
 
-module _ (names ends inner outer : List ℕ) (few : (x : ℕ) → times_in names x + times_in ends x ≤ 2) (open_in : AreOpen names inner) (out : IsLeft inner ends outer) where
+module _ (names ends inner outer : List ℕ) (few : (x : ℕ) → times_in names x + times_in ends x ≤ 2) (open_in : AreOpen names inner) (out : AreOpenBehind inner ends outer) where
   pub open_out : AreOpen (names ++ ends) outer
   open_out = record { once = λ x. let a = times_in-append names ends x in let b = few x in let c = open_in.once x in let d = out.once x in grind (arith, nat_tests, a, b, c, d) }
 

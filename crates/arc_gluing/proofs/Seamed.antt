@@ -22,7 +22,7 @@ use Rattle.graph_parts.proofs.Numbered.{is_member-numbered, numbered-member}
 use Rattle.graph_parts.proofs.PatternLabels.{closed_parts-labels}
 use Rattle.arc_gluing.specs.Mates.{mates_after, loops_after, pairs_below, IsMated, IsPairedLabels}
 use Rattle.arc_gluing.specs.Pairings.{pair_edges, IsPairedBy, partners_of}
-use Rattle.arc_gluing.specs.Seams.{IsLeft, AreSlots, IsSeam}
+use Rattle.arc_gluing.specs.Seams.{AreOpenBehind, AreSlots, IsSeam}
 use Rattle.list_lemmas.specs.Times.{times_in}
 use Rattle.arc_gluing.proofs.ByParts.{IsPairedBy-from_labels}
 use Rattle.arc_gluing.proofs.Copied.{copied}
@@ -64,7 +64,7 @@ module _ (names ends left end_slots left_slots places old term : List ℕ) (h : 
   slots : AreSlots names ends end_slots
   slots = slots_are names ends left end_slots left_slots places h
 
-  is_left : IsLeft (range_with_len 0 (length names)) end_slots left_slots
+  is_left : AreOpenBehind (range_with_len 0 (length names)) end_slots left_slots
   is_left = slots_left names ends left end_slots left_slots places h
 
   range_len : length range ≡ length names

@@ -13,7 +13,7 @@ use Rattle.graph_parts.proofs.Distinct.{is_member-append}
 use Rattle.graph_parts.proofs.Ends.{is_member-get_or}
 use Rattle.graph_parts.proofs.Numbered.{is_member-numbered, numbered-member}
 use Rattle.list_lemmas.specs.Times.{times_in}
-use Rattle.arc_gluing.specs.Seams.{place_in, IsLeft, AreSlots, IsSeam}
+use Rattle.arc_gluing.specs.Seams.{place_in, AreOpenBehind, AreSlots, IsSeam}
 use Rattle.list_lemmas.proofs.Times.{times_of_member, member_of_times, times_in-append, times_none}
 use Rattle.list_lemmas.proofs.Items.{member_at, same_items, get_front}
 use Rattle.arc_gluing.proofs.OneEdge.{same_or_not}
@@ -172,7 +172,7 @@ module _ (names ends left end_slots left_slots places : List ℕ) (h : IsSeam na
       sym (times_in-map name_at slot left_slots u (λ y k. slot_again y (left_slot_member y k)) (slot_again u m)) ∙ ap (λ xs. times_in xs (name_at u)) left_named
 
   -- WHAT IS LEFT, AT SLOTS
-  pub slots_left : IsLeft (range_with_len 0 (length names)) end_slots left_slots
+  pub slots_left : AreOpenBehind (range_with_len 0 (length names)) end_slots left_slots
   slots_left = record {
     few = λ u. let a = times_in-append range end_slots u in
         ⊎_elim

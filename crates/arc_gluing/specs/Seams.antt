@@ -2,7 +2,7 @@
 -- slot, the first place at which it stands in the list of all names; what is left are the names that stand once.
 --
 --     place_in names x                      the first place of x in the list
---     IsLeft names ends left                no name stands more than twice in both lists, and what stands once is left
+--     AreOpenBehind names ends left         no name stands more than twice in both lists, and those that are open are left
 --     AreSlots names ends end_slots         the slots of the ends: each tells its name, and no two tell one name
 --     IsSeam names ends left end_slots left_slots places
 --                                           the slots of the ends and of the names that are left, and the place of each of the latter
@@ -18,7 +18,7 @@ abbrev pub place_in : List ℕ → ℕ → ℕ
 place_in names x = position_or_len (λ y. x == y) names
 
 -- No name stands more than twice in both lists, and those that stand once are left.
-pub record IsLeft (names ends left : List ℕ) : Type 0 where
+pub record AreOpenBehind (names ends left : List ℕ) : Type 0 where
   pub few : (x : ℕ) → times_in names x + times_in ends x ≤ 2
   pub once : (x : ℕ) → times_in left x ≡ (if times_in names x + times_in ends x == 1 then 1 else 0)
 

@@ -3,7 +3,7 @@
 --
 --     Seam                        the names of the points before, the names of the node's ends, and the names that are left
 --     glued_edges seam old term   the pairs of the old pairing and of the term, as edges between names
---     single_count names          how many names stand once: 1 of 5, 5, 7
+--     open_name_count names       how many names are open, since they stand once: 1 of 5, 5, 7
 use Rattle.std.specs.Prelude.{ℕ, ◌==◌, List, ◌++◌}
 use Rattle.std.specs.List.{count_by}
 use Rattle.list_lemmas.specs.Times.{times_in}
@@ -19,6 +19,6 @@ pub record Seam : Type 0 where
 abbrev pub glued_edges : Seam → List ℕ → List ℕ → List (ℕ × ℕ)
 glued_edges seam old term = pair_edges seam.inner old ++ pair_edges seam.ends term
 
--- How many names stand once.
-abbrev pub single_count : List ℕ → ℕ
-single_count names = count_by (λ x. times_in names x == 1) names
+-- How many names are open.
+abbrev pub open_name_count : List ℕ → ℕ
+open_name_count names = count_by (λ x. times_in names x == 1) names

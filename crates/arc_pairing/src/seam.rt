@@ -6,7 +6,7 @@ ghost use Rattle.std.specs.List.Sorted.{IsStrictlyIncreasing};
 ghost use Rattle.list_lemmas.specs.Times.{times_in};
 ghost use Rattle.arc_gluing.specs.Pairings.{AreOpen};
 ghost use Rattle.arc_gluing.specs.Seams.{place_in};
-ghost use Rattle.arc_pairing.specs.Gluing.{single_count};
+ghost use Rattle.arc_pairing.specs.Gluing.{open_name_count};
 
 use crate::limits::{MOST_POINTS, MOST_SLOTS};
 use arrayvec::ArrayVec;
@@ -92,7 +92,7 @@ fn names_once(all: &[u32]) -> ArrayVec<u32, MOST_SLOTS>
     requires { length all.now ≤ MOST_SLOTS }
     ensures left { AreOpen all.now result.items }
     ensures ascending { IsStrictlyIncreasing result.items }
-    ensures count { length result.items ≡ single_count all.now }
+    ensures count { length result.items ≡ open_name_count all.now }
 {
     let mut single = single_names(all);
     single.sort_unstable();
@@ -154,7 +154,7 @@ impl Seam {
         ensures made { IfOk result (λ seam. (seam.inner ≡ names.now) × (seam.ends ≡ ends.now)) }
         ensures left { IfOk result (λ seam. AreOpen (names.now ++ ends.now) seam.outer) }
         ensures ascending { IfOk result (λ seam. IsStrictlyIncreasing seam.outer) }
-        ensures wide { (count : ℕ) → (result ≡ Err (record { ends = count })) ↔ (MOST_POINTS < single_count (names.now ++ ends.now)) × (count ≡ single_count (names.now ++ ends.now)) }
+        ensures wide { (count : ℕ) → (result ≡ Err (record { ends = count })) ↔ (MOST_POINTS < open_name_count (names.now ++ ends.now)) × (count ≡ open_name_count (names.now ++ ends.now)) }
     {
         let all = joined(names, ends);
         let single = names_once(all.as_slice());

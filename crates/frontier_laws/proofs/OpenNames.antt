@@ -10,7 +10,7 @@ use Rattle.arc_gluing.specs.Pairings.{AreOpen}
 use Rattle.list_lemmas.specs.Times.{times_in}
 use Rattle.arc_gluing.proofs.EachState.{times_in-more, AreOpen-open_names_in}
 use Rattle.list_lemmas.proofs.Times.{member_of_times, times_in-append}
-use Rattle.arc_pairing.specs.Gluing.{single_count}
+use Rattle.arc_pairing.specs.Gluing.{open_name_count}
 use Rattle.arc_pairing.proofs.SeamLists.{increasing_permuted}
 use Rattle.frontier_laws.specs.Orders.{increasing, open_names}
 use Rattle.frontier_laws.specs.Turns.{open_count}
@@ -75,7 +75,7 @@ module _ (nodes : List Node) (node : Node) (few : AreFew (nodes ++ node ∷ []))
   open_after outer h up = open_names-only (nodes ++ node ∷ []) outer (AreOpen-after outer h) up
 
   -- How many these are.
-  pub open_count-after : single_count (open_names nodes ++ node.ends) ≡ open_count (nodes ++ node ∷ [])
+  pub open_count-after : open_name_count (open_names nodes ++ node.ends) ≡ open_count (nodes ++ node ∷ [])
   open_count-after =
       let names = open_names nodes ++ node.ends in
       sym (length-filter (λ x. times_in names x == 1) names)

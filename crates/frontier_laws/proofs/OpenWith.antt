@@ -8,7 +8,7 @@ use Rattle.state_sums.specs.Networks.{Node}
 use Rattle.graph_parts.proofs.PartLaws.{count_by_all}
 use Rattle.list_lemmas.specs.Times.{times_in}
 use Rattle.list_lemmas.proofs.Times.{times_of_member, member_of_times, times_in-append, times_none}
-use Rattle.arc_pairing.specs.Gluing.{single_count}
+use Rattle.arc_pairing.specs.Gluing.{open_name_count}
 use Rattle.frontier_laws.specs.Orders.{open_names}
 use Rattle.frontier_laws.proofs.OpenNames.{AreOpen-open_names}
 
@@ -33,8 +33,8 @@ module _ (names ends : List ℕ) (once : (x : ℕ) → times_in names x ≤ 1) w
       grind (arith, nat_tests, a, s, yes, none)
 
   -- Of names that stand once each, those that are no ends stay open, and the ends that are none of them and stand once are new.
-  pub single_count-once : single_count (names ++ ends) ≡ count_by (λ name. not (is_member ◌==◌ ends name)) names + count_by (λ end. not (is_member ◌==◌ names end) && (times_in ends end == 1)) ends
-  single_count-once =
+  pub open_name_count-once : open_name_count (names ++ ends) ≡ count_by (λ name. not (is_member ◌==◌ ends name)) names + count_by (λ end. not (is_member ◌==◌ names end) && (times_in ends end == 1)) ends
+  open_name_count-once =
       let p : ℕ → Bool = λ x. times_in (names ++ ends) x == 1 in
       let both : count_by p (names ++ ends) ≡ count_by p names + count_by p ends = sum_by-append _ names ends in
       let one = count_by_all p (λ name. not (is_member ◌==◌ ends name)) names kept in

@@ -21,7 +21,7 @@ use Rattle.std.specs.List.{All, filter, fold, position, range_with_len}
 use Rattle.std.specs.Option.{unwrap_or}
 use Rattle.std.specs.Set.{is_member}
 use Rattle.state_sums.specs.Networks.{Node, Network, names_of}
-use Rattle.arc_pairing.specs.Gluing.{single_count}
+use Rattle.arc_pairing.specs.Gluing.{open_name_count}
 use Rattle.list_lemmas.specs.Times.{times_in}
 
 -- The node at that place; past the end, one with no end and no term.
@@ -86,7 +86,7 @@ listed_of view = slice_index view.left 0
 -- How many names are open when the node at that place is taken too: of the open names and its ends together, those that
 -- stand once. By the law `open_names_with` it is how many stand once in all nodes that are then taken.
 abbrev pub open_with : View → ℕ → ℕ
-open_with view place = single_count (view.names ++ (node_at view.network.nodes place).ends)
+open_with view place = open_name_count (view.names ++ (node_at view.network.nodes place).ends)
 
 -- Greedy: the place after which the fewest names are open, and the least of these.
 abbrev pub greedy_of : View → ℕ

@@ -10,7 +10,7 @@ use Rattle.std.proofs.lemmas.List.Elements.{All-get_or, All-nil}
 use Rattle.state_sums.specs.Networks.{Node, Network, Term, IsNode, WeightsBelow, names_of}
 use Rattle.arc_gluing.specs.Laws.{AreFew}
 use Rattle.arc_gluing.specs.Pairings.{AreOpen}
-use Rattle.arc_pairing.specs.Gluing.{Seam, single_count}
+use Rattle.arc_pairing.specs.Gluing.{Seam, open_name_count}
 use Rattle.arc_pairing.specs.Nodes.{IsShortNode, IsSmallNetwork}
 use Rattle.frontier_laws.specs.Orders.{node_at, taken, left_after, open_names, IsPartOrder}
 use Rattle.frontier_laws.specs.Tables.{IsTableOf, add_all, contribution, contributions}
@@ -133,10 +133,10 @@ module _ (m delta : ℕ) (network : Network) (order : List ℕ) (frontier : Fron
   }
 
   -- ---- where it stops
-  wide : (ends : ℕ) → 24 < single_count (frontier.names ++ node.ends) → ends ≡ single_count (frontier.names ++ node.ends) → IsWideAt (taken network.nodes (order ++ place ∷ [])) ends
+  wide : (ends : ℕ) → 24 < open_name_count (frontier.names ++ node.ends) → ends ≡ open_name_count (frontier.names ++ node.ends) → IsWideAt (taken network.nodes (order ++ place ∷ [])) ends
   wide ends many is =
-      let count : single_count (frontier.names ++ node.ends) ≡ open_count (taken network.nodes order ++ node ∷ []) =
-      ap (λ (names : List ℕ). single_count (names ++ node.ends)) h.names_are ∙ open_count-after (taken network.nodes order) node few in
+      let count : open_name_count (frontier.names ++ node.ends) ≡ open_count (taken network.nodes order ++ node ∷ []) =
+      ap (λ (names : List ℕ). open_name_count (names ++ node.ends)) h.names_are ∙ open_count-after (taken network.nodes order) node few in
       subst (λ nodes. IsWideAt nodes ends) (sym more) (wide_after (taken network.nodes order) node ends h.within (sym count ∙ sym is) (omega (arith, many, is)))
 
   -- A seam of the open names and the node is the one of the laws.

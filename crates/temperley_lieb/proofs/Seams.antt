@@ -6,7 +6,7 @@ use Rattle.std.specs.List.Sorted.{IsStrictlyIncreasing}
 use Rattle.std.specs.Result.{IsOk, IfOk}
 use Rattle.std.proofs.lemmas.Bool.Decides.{nat_tests}
 use Rattle.arc_gluing.specs.Pairings.{AreOpen}
-use Rattle.arc_pairing.specs.Gluing.{Seam, single_count}
+use Rattle.arc_pairing.specs.Gluing.{Seam, open_name_count}
 use Rattle.arc_pairing.specs.declared.seam.TooWide.{TooWide}
 use Rattle.strand_algebra.specs.GluedProducts.{below_names, above_names}
 use Rattle.strand_algebra.proofs.HookRelations.{at_range}
@@ -15,11 +15,11 @@ use Rattle.strand_algebra.proofs.HookRelations.{at_range}
 up_to_eight : (test : ℕ → Bool) → list_all test (range_with_len 0 9) ≡ true → (n : ℕ) → n ≤ 8 → test n ≡ true
 up_to_eight test h n l = at_range test 0 9 n h (omega arith) (omega arith)
 
-pub few_strands_left : (n : ℕ) → n ≤ 8 → single_count (below_names n ++ above_names n) ≤ 24
-few_strands_left n l = let t = up_to_eight (λ k. nat_le (single_count (below_names k ++ above_names k)) 24) refl n l in grind (arith, nat_tests, t)
+pub few_strands_left : (n : ℕ) → n ≤ 8 → open_name_count (below_names n ++ above_names n) ≤ 24
+few_strands_left n l = let t = up_to_eight (λ k. nat_le (open_name_count (below_names k ++ above_names k)) 24) refl n l in grind (arith, nat_tests, t)
 
-pub few_closing_left : (n : ℕ) → n ≤ 8 → single_count (below_names n ++ below_names n) ≤ 24
-few_closing_left n l = let t = up_to_eight (λ k. nat_le (single_count (below_names k ++ below_names k)) 24) refl n l in grind (arith, nat_tests, t)
+pub few_closing_left : (n : ℕ) → n ≤ 8 → open_name_count (below_names n ++ below_names n) ≤ 24
+few_closing_left n l = let t = up_to_eight (λ k. nat_le (open_name_count (below_names k ++ below_names k)) 24) refl n l in grind (arith, nat_tests, t)
 
 -- so `Seam::of` does not refuse
 pub not_wide : (count : ℕ) (r : Result Seam TooWide) → ((k : ℕ) → (r ≡ Err (record { ends = k })) ↔ (24 < count) × (k ≡ count)) → count ≤ 24 → IsOk r

@@ -1,7 +1,7 @@
 use Rattle.std.proofs.Common.{◌≡◌, ℕ, ◌<◌, ◌≤◌, ◌++◌, List, Err, refl, rules, ap, sym, subst, ◌∙◌}
 use Rattle.std.proofs.lemmas.Result.{err_from_is_err_and}
 use Rattle.list_lemmas.specs.Times.{times_in}
-use Rattle.arc_pairing.specs.Gluing.{single_count}
+use Rattle.arc_pairing.specs.Gluing.{open_name_count}
 use Rattle.std.specs.Result.{IfErr}
 use Rattle.state_sums.specs.Networks.{Node, Term}
 use Rattle.arc_gluing.specs.Pairings.{AreOpen}
@@ -21,8 +21,8 @@ returns-in_err-seam-clause-refused c =
     let wide = ((c.in_err-seam.ensures {u = tt}).wide c.in_err-seam.field-0.0.ends).0 refl in
     let ends = c.ends.ensures.value in
     let explained : Explains powers.modulus powers.delta c.args.names.now c.args.node.now c.args.table.now (Wide c.in_err-seam.field-0.0.ends) = (
-      subst (λ (ends : List ℕ). 24 < single_count (c.args.names.now ++ ends)) ends wide.0,
-      wide.1 ∙ ap (λ (ends : List ℕ). single_count (c.args.names.now ++ ends)) ends,
+      subst (λ (ends : List ℕ). 24 < open_name_count (c.args.names.now ++ ends)) ends wide.0,
+      wide.1 ∙ ap (λ (ends : List ℕ). open_name_count (c.args.names.now ++ ends)) ends,
     ) in
     subst (λ result. IfErr result (Explains powers.modulus powers.delta c.args.names.now c.args.node.now c.args.table.now)) (sym p.1)
     (subst (Explains powers.modulus powers.delta c.args.names.now c.args.node.now c.args.table.now) (sym p.2) explained)

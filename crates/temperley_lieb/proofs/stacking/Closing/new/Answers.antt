@@ -2,7 +2,7 @@ use Rattle.std.proofs.Common.{ℕ, ◌≡◌, ◌≤◌, ◌++◌, List, [], sym
 use Rattle.std.specs.List.Sorted.{IsStrictlyIncreasing}
 use Rattle.list_lemmas.specs.Times.{times_in}
 use Rattle.arc_gluing.specs.Pairings.{AreOpen}
-use Rattle.arc_pairing.specs.Gluing.{single_count}
+use Rattle.arc_pairing.specs.Gluing.{open_name_count}
 use Rattle.strand_algebra.specs.GluedProducts.{below_names}
 use Rattle.strand_algebra.proofs.StrandSeams.{strand_seam, few_doubled, none_left}
 use Rattle.temperley_lieb.proofs.Seams.{few_closing_left, not_wide, seam_is}
@@ -25,8 +25,8 @@ of-requires-clause-few c =
 pub unwrap-seam-requires : goal.unwrap-seam-requires
 unwrap-seam-requires c =
     let n = c.args.strands in
-    not_wide (single_count (c.as_slice.result.now ++ c.as_slice-2.result.now)) c.of.result c.of.ensures.wide
-    (let P : List ℕ → Type 0 = λ xs. single_count xs ≤ 24 in
+    not_wide (open_name_count (c.as_slice.result.now ++ c.as_slice-2.result.now)) c.of.result c.of.ensures.wide
+    (let P : List ℕ → Type 0 = λ xs. open_name_count xs ≤ 24 in
     subst P (sym (all_is n c.as_slice.result.now c.as_slice-2.result.now (c.as_slice.ensures.value ∙ c.below_names.ensures) (c.as_slice-2.ensures.value ∙ c.below_names-2.ensures))) (few_closing_left n c.requires))
 
 pub invariant_of-result : goal.invariant_of-result
