@@ -1,5 +1,5 @@
 -- Bounds on what a fraction in lowest terms is computed from.
-use Rattle.std.proofs.Common.{◌≡◌, Bool, ◌&&◌, ◌+ℤ◌, Option, SomeIff, MatchOption, ℕ, zero, suc, ◌*◌, ◌/◌, ◌<◌, ◌≤◌, ◌^◌, ℤ, pos, negsuc, neg_ℤ, true, false, unsigned_abs, FitsSigned, IsTrue, refl, sym, ap, ap₂, subst, ◌∙◌, arith, to_z, of_z}
+use Rattle.std.proofs.Common.{◌≡◌, Bool, ◌&&◌, ◌+ℤ◌, Option, SomeIff, MatchOption, ℕ, suc, ◌/◌, ◌<◌, ◌≤◌, ◌^◌, ℤ, pos, negsuc, true, false, unsigned_abs, FitsSigned, IsTrue, refl, sym, ap, ap₂, subst, ◌∙◌, arith, to_z, of_z}
 use Rattle.std.proofs.lemmas.Nat.Gcd.{le_of_dvd, same_from_IsGcd}
 use Rattle.std.proofs.lemmas.Int.{to_z_pos, to_z-of_z}
 use Rattle.std.proofs.Math.Nat.{div-mul_cancel, div-le_self}

@@ -4,4 +4,5 @@ pub mod Tables
 pub mod Stages
 pub mod SumSteps
 pub mod GridEntries
+pub mod ColumnFits
 pub mod Verdict

@@ -1,13 +1,15 @@
 -- What a program's elimination stands for, and the certificate that it gives.
 --
 --     size_of e, state e       the size, and M, P and Q as matrices of fractions
---     p_of c, q_of c, diagonal_of c    the two matrices and the diagonal of a certificate
-use Rattle.std.specs.Prelude.{ℕ}
+--     CertifiedInertia         a certificate, with certificate_size, p_of, q_of and diagonal_of
+--     certified e              the certificate that a finished elimination gives
+--     IsReached n c s          its matrices are those of the state s, below n
+use Rattle.std.specs.Prelude.{◌≡◌, ℕ, ◌<◌}
 use Rattle.inertia_laws.specs.Fractions as logic
 use Rattle.inertia_laws.specs.Elimination.{State}
+use Rattle.inertia_laws.specs.Agreement.{Agree}
 use Rattle.inertia_cert.specs.declared.elimination.Elimination.{Elimination}
-use Rattle.inertia_cert.specs.declared.certificate.Certificate.{Certificate}
-use Rattle.inertia_cert.specs.Grids.{at}
+use Rattle.inertia_cert.specs.Grids.{FractionTable, entry_in, table_of, at}
 
 -- the number of rows
 abbrev pub size_of : Elimination → ℕ
@@ -18,14 +20,30 @@ abbrev pub state : Elimination → State
 state e = record { m = at e.matrix; p = at e.p; q = at e.q }
 
 -- ---- a certificate
-abbrev pub certificate_size : Certificate → ℕ
-certificate_size c = size_of c.done
+-- a certificate as contracts see it: P and Q, and the matrix whose diagonal counts
+pub record CertifiedInertia : Type 0 where
+  pub matrix : FractionTable
+  pub p : FractionTable
+  pub q : FractionTable
 
-abbrev pub p_of : Certificate → ℕ → ℕ → logic.Fraction
-p_of c = at c.done.p
+-- the certificate that a finished elimination gives
+abbrev pub certified : Elimination → CertifiedInertia
+certified e = record { matrix = table_of e.matrix; p = table_of e.p; q = table_of e.q }
 
-abbrev pub q_of : Certificate → ℕ → ℕ → logic.Fraction
-q_of c = at c.done.q
+abbrev pub certificate_size : CertifiedInertia → ℕ
+certificate_size c = c.matrix.size
 
-abbrev pub diagonal_of : Certificate → ℕ → logic.Fraction
-diagonal_of c i = at c.done.matrix i i
+abbrev pub p_of : CertifiedInertia → ℕ → ℕ → logic.Fraction
+p_of c = entry_in c.p
+
+abbrev pub q_of : CertifiedInertia → ℕ → ℕ → logic.Fraction
+q_of c = entry_in c.q
+
+abbrev pub diagonal_of : CertifiedInertia → ℕ → logic.Fraction
+diagonal_of c i = entry_in c.matrix i i
+
+-- P, Q and the diagonal are those of this state, below n
+pub record IsReached (n : ℕ) (c : CertifiedInertia) (s : State) : Type 0 where
+  pub p : Agree n (p_of c) s.p
+  pub q : Agree n (q_of c) s.q
+  pub diagonal : (i : ℕ) → i < n → diagonal_of c i ≡ s.m i i

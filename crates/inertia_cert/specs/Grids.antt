@@ -1,5 +1,8 @@
 -- Square tables of fractions, as the functions of a row and a column that they stand for.
 --
+--     FractionTable, entry_in table i j    a table of fractions, and the one in row i and column j
+--     table_of grid          the fractions of a program's table
+--     listed_at entries k    the k-th fraction of a list, from 0
 --     at grid i j            the fraction in row i and column j, from 0
 --     listed n f             f 0, .., f (n - 1)
 --     tabulated n rows f     so many rows of n entries f i j, one after the other
@@ -21,6 +24,22 @@ values entries = map value entries
 -- the fraction in row i and column j
 abbrev pub at : Grid → ℕ → ℕ → logic.Fraction
 at grid i j = slice_index_or (values grid.entries.items) (i * grid.size + j) (whole (pos 0))
+
+-- a square table of fractions: the size and the entries, rows one after the other
+pub record FractionTable : Type 0 where
+  pub size : ℕ
+  pub entries : List logic.Fraction
+
+-- the fraction in row i and column j of a table
+abbrev pub entry_in : FractionTable → ℕ → ℕ → logic.Fraction
+entry_in table i j = slice_index_or table.entries (i * table.size + j) (whole (pos 0))
+
+abbrev pub table_of : Grid → FractionTable
+table_of grid = record { size = grid.size; entries = values grid.entries.items }
+
+-- the k-th fraction of a list
+abbrev pub listed_at : List Fraction → ℕ → logic.Fraction
+listed_at entries k = slice_index_or (values entries) k (whole (pos 0))
 
 -- f 0, .., f (n - 1)
 abbrev pub listed : ℕ → (ℕ → logic.Fraction) → List logic.Fraction

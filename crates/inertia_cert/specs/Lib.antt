@@ -2,3 +2,4 @@ pub mod SymmetricMatrices
 pub mod Values
 pub mod Grids
 pub mod Eliminations
+pub mod Columns

@@ -10,7 +10,7 @@ use crate::fraction::Fraction;
 use crate::tabulate::Rule;
 
 /// Whether the fractions are the same.
-fn is_same(x: Fraction, y: Fraction) -> bool
+pub(crate) fn is_same(x: Fraction, y: Fraction) -> bool
     ensures { IsTrue result ↔ (value x ≡ value y) }
 {
     x.num == y.num && x.den == y.den

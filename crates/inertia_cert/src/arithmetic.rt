@@ -1,6 +1,6 @@
 //! Sums, differences, products and quotients of fractions, which say where a number that they form leaves 128 bits.
 
-ghost use Rattle.std.specs.Prelude.{◌≡◌, ℤ, ◌+ℤ◌, ◌-ℤ◌, ◌*ℤ◌, neg_ℤ, unsigned_abs, IsTrue, SomeIff, true, false, MatchOption};
+ghost use Rattle.std.specs.Prelude.{◌≡◌, ℤ, ◌+ℤ◌, ◌-ℤ◌, ◌*ℤ◌, neg_ℤ, unsigned_abs, IsTrue, SomeIff, ◌&&◌, true, false, MatchOption};
 ghost use Rattle.inertia_laws.specs.Matrices.{is_positive, is_zero};
 ghost use Rattle.inertia_laws.specs.Range.{fits, add_fits, subtract_fits, multiply_fits, divide_fits};
 ghost use Rattle.inertia_laws.specs.Fractions.{whole, gcd, reduce, plus, minus, times, ratio};
@@ -95,6 +95,14 @@ pub(crate) fn plus(x: Fraction, y: Fraction) -> Option<Fraction>
     let top = crossed(x, y)?;
     let bottom = product(x.den, y.den)?;
     Some(lowest(top, bottom))
+}
+
+/// The sum and a product.
+pub(crate) fn plus_product(x: Fraction, y: Fraction, z: Fraction) -> Option<Fraction>
+    ensures { FormsAs result (multiply_fits (value y) (value z) && add_fits (value x) (times (value y) (value z))) (plus (value x) (times (value y) (value z))) }
+{
+    let part = times(y, z)?;
+    plus(x, part)
 }
 
 /// The fraction with the other sign.

@@ -8,7 +8,7 @@ ghost use Rattle.inertia_laws.specs.Agreement.{AgreeAll};
 ghost use Rattle.inertia_laws.specs.Range.{first_leaving};
 ghost use Rattle.inertia_cert.specs.SymmetricMatrices.{entry};
 ghost use Rattle.inertia_cert.specs.Values.{value};
-ghost use Rattle.inertia_cert.specs.Eliminations.{size_of, state, certificate_size, p_of, q_of, diagonal_of};
+ghost use Rattle.inertia_cert.specs.Eliminations.{size_of, state, certificate_size, p_of, q_of, diagonal_of, certified, IsReached};
 
 use crate::elimination::Elimination;
 use crate::fault::{FormFault, InertiaFault};
@@ -17,12 +17,23 @@ use crate::matrix::Matrix;
 use crate::starting::start;
 use crate::steps::step;
 use std::alloc::Global;
+use std::marker::Model;
 
 /// A certificate of the inertia of a symmetric matrix: square matrices P and Q of fractions, inverse
 /// to each other, and the diagonal that P-transposed times the matrix times P is.
+///
+/// Contracts see it as P, Q and the matrix whose diagonal counts, each with its rows one after the other.
 #[derive(Drop, Debug)]
 pub struct Certificate {
-    pub(crate) done: Elimination,
+    done: Elimination,
+}
+
+impl Model for Certificate {
+    ghost use Rattle.inertia_cert.specs.Eliminations.{CertifiedInertia, certified};
+
+    ghost Value = { CertifiedInertia };
+
+    ghost view = { λ certificate. certified certificate.done };
 }
 
 /// How many entries of a diagonal are positive, negative and zero.
@@ -45,7 +56,8 @@ fn eliminate(alloc: Global, matrix: &Matrix) -> Result<Elimination, InertiaFault
 {
     let mut now = match start(alloc, matrix) {
         Ok(first) => first,
-        Err(_) => return Err(InertiaFault::Memory),
+        Err(FormFault::Memory) => return Err(InertiaFault::Memory),
+        Err(FormFault::OutOfBits) => unreachable!(),
     };
     for place in 0..matrix.size() {
         now = match step(alloc, now, place as usize) {
@@ -68,7 +80,7 @@ pub fn inertia(alloc: Global, matrix: &Matrix) -> Result<Certificate, InertiaFau
     ensures certifies { IfOk result (λ made. IsCertificate matrix.now.size (entry matrix.now) (p_of made) (q_of made) (diagonal_of made)) }
 
     // P, Q and the diagonal are those of the elimination over fractions of any size.
-    ensures eliminated { IfOk result (λ made. AgreeAll matrix.now.size (state made.done) (eliminated matrix.now.size (entry matrix.now))) }
+    ensures eliminated { IfOk result (λ made. IsReached matrix.now.size made (eliminated matrix.now.size (entry matrix.now))) }
 
     // No number leaves 128 bits, or the first step with one that does is named, but where memory runs out.
     ensures in_range { OnOk result (first_leaving matrix.now.size (entry matrix.now) ≡ None) }
@@ -108,6 +120,13 @@ fn counted(counts: Counts, entry: Fraction) -> Counts
 }
 
 impl Certificate {
+    /// The elimination at its end.
+    pub(crate) fn done(&self) -> &Elimination
+        ensures { certified result.now ≡ self.now }
+    {
+        &self.done
+    }
+
     /// The number of rows, at most 512. It takes no memory.
     pub fn size(&self) -> u32
         ensures value { result ≡ certificate_size self.now }

@@ -5,44 +5,37 @@ ghost use Rattle.inertia_laws.specs.Certificates.{IsCertificate};
 ghost use Rattle.inertia_laws.specs.Checking.{check_fits};
 ghost use Rattle.inertia_cert.specs.SymmetricMatrices.{entry};
 ghost use Rattle.inertia_cert.specs.Grids.{Decides};
-ghost use Rattle.inertia_cert.specs.Eliminations.{certificate_size, p_of, q_of, diagonal_of};
+ghost use Rattle.inertia_cert.specs.Eliminations.{size_of, certificate_size, p_of, q_of, diagonal_of, certified};
 
 use crate::agreement::agrees;
 use crate::certificate::Certificate;
+use crate::elimination::Elimination;
 use crate::fault::OutOfBits;
 use crate::matrix::Matrix;
-use crate::products::{CongruenceEntry, Diagonal, InverseEntry};
+use crate::products::{InverseEntry, congruence_agrees};
 use crate::starting::Identity;
 
 /// Whether both equations hold, unless a number that their entries form leaves 128 bits.
-fn checked(matrix: &Matrix, certificate: &Certificate) -> Option<bool>
-    requires { certificate_size certificate.now ≡ matrix.now.size }
-    ensures { let n = matrix.now.size in let l = entry matrix.now in let c = certificate.now in
+fn checked(matrix: &Matrix, done: &Elimination) -> Option<bool>
+    requires { size_of done.now ≡ matrix.now.size }
+    ensures { let n = matrix.now.size in let l = entry matrix.now in let c = certified done.now in
         Decides result (check_fits n l (p_of c) (q_of c)) (IsCertificate n l (p_of c) (q_of c) (diagonal_of c)) }
 {
     let size = matrix.size() as usize;
-    let done = &certificate.done;
-    let inverse = agrees(
-        size,
-        &InverseEntry {
-            p: &done.p,
-            q: &done.q,
-        },
-        &Identity { size },
-    )?;
-    let congruence = agrees(
-        size,
-        &CongruenceEntry { matrix, p: &done.p },
-        &Diagonal { grid: &done.matrix },
-    )?;
+    let made = InverseEntry {
+        p: &done.p,
+        q: &done.q,
+    };
+    let inverse = agrees(size, &made, &Identity { size })?;
+    let congruence = congruence_agrees(matrix, &done.p, &done.matrix)?;
     Some(inverse && congruence)
 }
 
 /// Whether the certificate is one of the matrix: P Q is the identity, and P-transposed times the matrix
 /// times P is the diagonal. Both have the same size. It takes no memory.
 ///
-/// Every entry of P Q, and of P-transposed times the matrix times P, is computed with reduced fractions,
-/// its sum beginning with its first product. `OutOfBits` comes exactly where a number formed so is past
+/// Every entry of P Q, of the matrix times P, and of P-transposed times the matrix times P, is computed once, with
+/// reduced fractions, its sum beginning with its first product. `OutOfBits` comes exactly where a number formed so is past
 /// 2^127 - 1 in size. (This project's own.)
 pub fn check(matrix: &Matrix, certificate: &Certificate) -> Result<bool, OutOfBits>
     requires { certificate_size certificate.now ≡ matrix.now.size }
@@ -51,5 +44,5 @@ pub fn check(matrix: &Matrix, certificate: &Certificate) -> Result<bool, OutOfBi
     ensures { let n = matrix.now.size in let l = entry matrix.now in let c = certificate.now in let fit = check_fits n l (p_of c) (q_of c) in
         MatchResult result (λ answer. (fit ≡ true) × (IsTrue answer ↔ IsCertificate n l (p_of c) (q_of c) (diagonal_of c))) (λ _. fit ≡ false) }
 {
-    checked(matrix, certificate).ok_or(OutOfBits)
+    checked(matrix, certificate.done()).ok_or(OutOfBits)
 }

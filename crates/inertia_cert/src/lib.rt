@@ -11,6 +11,7 @@ mod elimination;
 mod fault;
 mod fraction;
 mod grid;
+mod lines;
 mod matrix;
 mod parts;
 mod places;

@@ -8,6 +8,9 @@ use crate::fault::MatrixFault;
 use std::alloc::Global;
 use std::marker::Model;
 
+/// The greatest number of rows.
+pub(crate) const MOST_ROWS: usize = 512;
+
 /// A symmetric matrix of at most 512 rows, of whole numbers at most 2^127 - 1 in size.
 ///
 /// Contracts see it as its size and the list of its entries, rows one after the other;

@@ -8,7 +8,7 @@ ghost use Rattle.inertia_laws.specs.Range.{divide_fits, multiply_fits, subtract_
 ghost use Rattle.inertia_cert.specs.Values.{value, FormsAs};
 ghost use Rattle.inertia_cert.specs.Grids.{at};
 
-use crate::arithmetic::{minus, plus, ratio, times};
+use crate::arithmetic::{minus, plus_product, ratio, times};
 use crate::fraction::Fraction;
 use crate::grid::Grid;
 use crate::places::is_cleared;
@@ -64,14 +64,6 @@ pub(crate) fn less_part_of_column(
 {
     let rho = quotient(matrix, pivot, column)?;
     less_product(grid.at(row, column), rho, grid.at(row, pivot))
-}
-
-/// The sum and a product.
-fn plus_product(x: Fraction, y: Fraction, z: Fraction) -> Option<Fraction>
-    ensures { FormsAs result (multiply_fits (value y) (value z) && add_fits (value x) (times (value y) (value z))) (plus (value x) (times (value y) (value z))) }
-{
-    let part = times(y, z)?;
-    plus(x, part)
 }
 
 /// The sum, and the quotient of the place times its row's entry in the column, if the place is cleared.

@@ -1,45 +1,22 @@
-//! The entries of the products that a check computes, and those that it wants.
+//! The products that a check computes, entry by entry, and those that it wants.
 
-ghost use Rattle.std.specs.Prelude.{◌≡◌, ◌<◌};
-ghost use Rattle.inertia_laws.specs.Checking.{image_entry, image_fits};
+ghost use Rattle.std.specs.Prelude.{◌≡◌, ◌<◌, ◌≤◌, ◌&&◌, ℕ, pred, length, false, MatchOption};
+ghost use Rattle.inertia_laws.specs.Fractions.{times};
+ghost use Rattle.inertia_laws.specs.Range.{every, multiply_fits};
+ghost use Rattle.inertia_laws.specs.Checking.{summed, sum_fits, image_entry, image_fits, congruence_entry, diagonal_matrix};
 ghost use Rattle.inertia_cert.specs.SymmetricMatrices.{entry};
-ghost use Rattle.inertia_cert.specs.Values.{FormsAs};
-ghost use Rattle.inertia_cert.specs.Grids.{at};
+ghost use Rattle.inertia_cert.specs.Values.{value, FormsAs};
+ghost use Rattle.inertia_cert.specs.Grids.{at, listed_at, Decides};
+ghost use Rattle.inertia_cert.specs.Columns.{column_fits, AreImages};
 
-use crate::arithmetic::{times, whole};
+use crate::agreement::is_same;
+use crate::arithmetic::whole;
 use crate::fraction::Fraction;
 use crate::grid::Grid;
-use crate::matrix::Matrix;
-use crate::sums::{Terms, summed};
+use crate::lines::{Column, Listed, Row, WholeRow};
+use crate::matrix::{MOST_ROWS, Matrix};
+use crate::sums::dot;
 use crate::tabulate::Rule;
-
-/// The terms of an entry of P Q.
-#[derive(Drop)]
-struct InverseTerms<'a> {
-    p: &'a Grid,
-    q: &'a Grid,
-    row: usize,
-    column: usize,
-    ghost same_size: { q.now.size ≡ p.now.size },
-    ghost row_in_range: { row < p.now.size },
-    ghost column_in_range: { column < p.now.size },
-}
-
-impl Terms for InverseTerms<'_> {
-    ghost use Rattle.inertia_laws.specs.Fractions.{times};
-    ghost use Rattle.inertia_laws.specs.Range.{multiply_fits};
-    ghost use Rattle.inertia_cert.specs.Grids.{at};
-
-    ghost count = { λ terms. terms.p.now.size };
-
-    ghost gives = { λ terms k. times (at terms.p.now terms.row k) (at terms.q.now k terms.column) };
-
-    ghost fits = { λ terms k. multiply_fits (at terms.p.now terms.row k) (at terms.q.now k terms.column) };
-
-    fn term(&self, place: usize) -> Option<Fraction> {
-        times(self.p.at(self.row, place), self.q.at(place, self.column))
-    }
-}
 
 /// The entries of P Q.
 #[derive(Drop)]
@@ -60,45 +37,12 @@ impl Rule for InverseEntry<'_> {
     ghost fits = { λ rule. product_fits rule.p.now.size (at rule.p.now) (at rule.q.now) };
 
     fn entry(&self, row: usize, column: usize) -> Option<Fraction> {
-        let terms = InverseTerms {
-            p: self.p,
-            q: self.q,
-            row,
+        let left = Row { grid: self.p, row };
+        let right = Column {
+            grid: self.q,
             column,
         };
-        summed(&terms, self.p.size)
-    }
-}
-
-/// The terms of an entry of the matrix times P.
-#[derive(Drop)]
-struct ImageTerms<'a> {
-    matrix: &'a Matrix,
-    p: &'a Grid,
-    row: usize,
-    column: usize,
-    ghost same_size: { p.now.size ≡ matrix.now.size },
-    ghost row_in_range: { row < matrix.now.size },
-    ghost column_in_range: { column < matrix.now.size },
-}
-
-impl Terms for ImageTerms<'_> {
-    ghost use Rattle.inertia_laws.specs.Fractions.{whole, times};
-    ghost use Rattle.inertia_laws.specs.Range.{multiply_fits};
-    ghost use Rattle.inertia_cert.specs.SymmetricMatrices.{entry};
-    ghost use Rattle.inertia_cert.specs.Grids.{at};
-
-    ghost count = { λ terms. terms.matrix.now.size };
-
-    ghost gives = { λ terms k. times (whole (entry terms.matrix.now terms.row k)) (at terms.p.now k terms.column) };
-
-    ghost fits = { λ terms k. multiply_fits (whole (entry terms.matrix.now terms.row k)) (at terms.p.now k terms.column) };
-
-    fn term(&self, place: usize) -> Option<Fraction> {
-        // What a matrix keeps is told by the contract of its size.
-        let _size = self.matrix.size();
-        let entry = whole(self.matrix.entry(self.row as u32, place as u32));
-        times(entry, self.p.at(place, self.column))
+        dot(&left, &right, self.p.size)
     }
 }
 
@@ -109,99 +53,104 @@ fn image(matrix: &Matrix, p: &Grid, row: usize, column: usize) -> Option<Fractio
     requires column { column < matrix.now.size }
     ensures { FormsAs result (image_fits matrix.now.size (entry matrix.now) (at p.now) row column) (image_entry matrix.now.size (entry matrix.now) (at p.now) row column) }
 {
-    let terms = ImageTerms {
-        matrix,
-        p,
-        row,
-        column,
-    };
-    summed(&terms, p.size)
+    let right = Column { grid: p, column };
+    dot(&WholeRow { matrix, row }, &right, p.size)
 }
 
-/// The terms of an entry of P-transposed times the matrix times P.
-#[derive(Drop)]
-struct CongruenceTerms<'a> {
-    matrix: &'a Matrix,
-    p: &'a Grid,
-    row: usize,
+/// Writes this column of the matrix times P to the front of the list, unless a number that it forms leaves 128 bits.
+fn write_image(
+    image_column: &mut [Fraction],
+    matrix: &Matrix,
+    p: &Grid,
     column: usize,
-    ghost same_size: { p.now.size ≡ matrix.now.size },
-    ghost row_in_range: { row < matrix.now.size },
-    ghost column_in_range: { column < matrix.now.size },
+) -> Option<()>
+    requires room { matrix.now.size ≤ length image_column.old }
+    requires same_size { p.now.size ≡ matrix.now.size }
+    requires column { column < matrix.now.size }
+    ensures { let n = matrix.now.size in let l = entry matrix.now in
+        MatchOption result (every n (λ k. image_fits n l (at p.now) k column) ≡ false)
+        (λ _. AreImages n l (at p.now) column n (listed_at image_column.new)) }
+{
+    for row in 0..p.size {
+        image_column[row] = image(matrix, p, row, column)?;
+    }
+    Some(())
 }
 
-impl Terms for CongruenceTerms<'_> {
-    ghost use Rattle.std.specs.Prelude.{◌&&◌};
-    ghost use Rattle.inertia_laws.specs.Fractions.{times};
-    ghost use Rattle.inertia_laws.specs.Range.{multiply_fits};
-    ghost use Rattle.inertia_laws.specs.Checking.{image_entry, image_fits};
-    ghost use Rattle.inertia_cert.specs.SymmetricMatrices.{entry};
-    ghost use Rattle.inertia_cert.specs.Grids.{at};
+/// The sum of the products of a column of P and the listed entries.
+fn column_product(p: &Grid, row: usize, entries: &[Fraction]) -> Option<Fraction>
+    requires room { p.now.size ≤ length entries.now }
+    requires row { row < p.now.size }
+    ensures { let n = p.now.size in let x = λ (k : ℕ). at p.now k row in let y = listed_at entries.now in
+        FormsAs result (every n (λ k. multiply_fits (x k) (y k)) && sum_fits (pred n) (λ k. times (x k) (y k))) (summed (pred n) (λ k. times (x k) (y k))) }
+{
+    let left = Column {
+        grid: p,
+        column: row,
+    };
+    let right = Listed {
+        entries,
+        size: p.size,
+    };
+    dot(&left, &right, p.size)
+}
 
-    ghost count = { λ terms. terms.matrix.now.size };
-
-    ghost gives = { λ terms k. times (at terms.p.now k terms.row) (image_entry terms.matrix.now.size (entry terms.matrix.now) (at terms.p.now) k terms.column) };
-
-    ghost fits = { λ terms k. image_fits terms.matrix.now.size (entry terms.matrix.now) (at terms.p.now) k terms.column && multiply_fits (at terms.p.now k terms.row) (image_entry terms.matrix.now.size (entry terms.matrix.now) (at terms.p.now) k terms.column) };
-
-    fn term(&self, place: usize) -> Option<Fraction> {
-        let image = image(self.matrix, self.p, place, self.column)?;
-        times(self.p.at(place, self.row), image)
+/// The entry in this row and column of the matrix that has the table's diagonal, and zeros elsewhere.
+fn diagonal_entry(grid: &Grid, row: usize, column: usize) -> Fraction
+    requires row { row < grid.now.size }
+    requires column { column < grid.now.size }
+    ensures { value result ≡ diagonal_matrix (λ i. at grid.now i i) row column }
+{
+    if row == column {
+        grid.at(row, row)
+    } else {
+        whole(0)
     }
 }
 
-/// The entries of P-transposed times the matrix times P.
-#[derive(Drop)]
-pub(crate) struct CongruenceEntry<'a> {
-    pub(crate) matrix: &'a Matrix,
-    pub(crate) p: &'a Grid,
-    ghost same_size: { p.now.size ≡ matrix.now.size },
-}
-
-impl Rule for CongruenceEntry<'_> {
-    ghost use Rattle.inertia_laws.specs.Checking.{congruence_entry, whole_fits};
-    ghost use Rattle.inertia_cert.specs.SymmetricMatrices.{entry};
-    ghost use Rattle.inertia_cert.specs.Grids.{at};
-
-    ghost size = { λ rule. rule.matrix.now.size };
-
-    ghost gives = { λ rule. congruence_entry rule.matrix.now.size (entry rule.matrix.now) (at rule.p.now) };
-
-    ghost fits = { λ rule. whole_fits rule.matrix.now.size (entry rule.matrix.now) (at rule.p.now) };
-
-    fn entry(&self, row: usize, column: usize) -> Option<Fraction> {
-        let terms = CongruenceTerms {
-            matrix: self.matrix,
-            p: self.p,
-            row,
-            column,
-        };
-        summed(&terms, self.p.size)
-    }
-}
-
-/// The diagonal of a table, and zeros elsewhere.
-#[derive(Drop)]
-pub(crate) struct Diagonal<'a> {
-    pub(crate) grid: &'a Grid,
-}
-
-impl Rule for Diagonal<'_> {
-    ghost use Rattle.std.specs.Prelude.{true};
-    ghost use Rattle.inertia_laws.specs.Checking.{diagonal_matrix};
-    ghost use Rattle.inertia_cert.specs.Grids.{at};
-
-    ghost size = { λ rule. rule.grid.now.size };
-
-    ghost gives = { λ rule. diagonal_matrix (λ i. at rule.grid.now i i) };
-
-    ghost fits = { λ rule i j. true };
-
-    fn entry(&self, row: usize, column: usize) -> Option<Fraction> {
-        if row == column {
-            Some(self.grid.at(row, row))
-        } else {
-            Some(whole(0))
+/// Whether this column of P-transposed times the matrix times P is that of the diagonal, unless a number that it
+/// forms leaves 128 bits. The column of the matrix times P is written to the list.
+fn column_agrees(
+    image_column: &mut [Fraction],
+    matrix: &Matrix,
+    p: &Grid,
+    diagonal: &Grid,
+    column: usize,
+) -> Option<bool>
+    requires room { matrix.now.size ≤ length image_column.old }
+    requires same_size { p.now.size ≡ matrix.now.size }
+    requires diagonal { diagonal.now.size ≡ matrix.now.size }
+    requires column { column < matrix.now.size }
+    ensures { let n = matrix.now.size in let l = entry matrix.now in
+        Decides result (column_fits n l (at p.now) column)
+        ((i : ℕ) → i < n → congruence_entry n l (at p.now) i column ≡ diagonal_matrix (λ i. at diagonal.now i i) i column) }
+{
+    write_image(image_column, matrix, p, column)?;
+    let mut same = true;
+    for row in 0..p.size {
+        let here = column_product(p, row, image_column)?;
+        if !is_same(here, diagonal_entry(diagonal, row, column)) {
+            same = false;
         }
     }
+    Some(same)
+}
+
+/// Whether P-transposed times the matrix times P is the diagonal, unless a number that its entries form leaves 128
+/// bits. Each column of the matrix times P is computed once.
+pub(crate) fn congruence_agrees(matrix: &Matrix, p: &Grid, diagonal: &Grid) -> Option<bool>
+    requires same_size { p.now.size ≡ matrix.now.size }
+    requires diagonal { diagonal.now.size ≡ matrix.now.size }
+    ensures { let n = matrix.now.size in let l = entry matrix.now in
+        Decides result (every n (column_fits n l (at p.now)))
+        ((j : ℕ) → j < n → (i : ℕ) → i < n → congruence_entry n l (at p.now) i j ≡ diagonal_matrix (λ i. at diagonal.now i i) i j) }
+{
+    let mut image_column = [whole(0); MOST_ROWS];
+    let mut same = true;
+    for column in 0..p.size {
+        if !column_agrees(&mut image_column, matrix, p, diagonal, column)? {
+            same = false;
+        }
+    }
+    Some(same)
 }

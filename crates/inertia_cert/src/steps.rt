@@ -30,39 +30,30 @@ fn exchange(
     ensures refused { IfErr result (λ fault. CausedBy fault true) }
 {
     let size = now.matrix.size;
-    let matrix = tabulate(
-        alloc,
-        size,
-        &Exchanged {
-            grid: &now.matrix,
-            first,
-            second,
-            rows: true,
-            columns: true,
-        },
-    )?;
-    let p = tabulate(
-        alloc,
-        size,
-        &Exchanged {
-            grid: &now.p,
-            first,
-            second,
-            rows: false,
-            columns: true,
-        },
-    )?;
-    let q = tabulate(
-        alloc,
-        size,
-        &Exchanged {
-            grid: &now.q,
-            first,
-            second,
-            rows: true,
-            columns: false,
-        },
-    )?;
+    let rule = Exchanged {
+        grid: &now.matrix,
+        first,
+        second,
+        rows: true,
+        columns: true,
+    };
+    let matrix = tabulate(alloc, size, &rule)?;
+    let rule = Exchanged {
+        grid: &now.p,
+        first,
+        second,
+        rows: false,
+        columns: true,
+    };
+    let p = tabulate(alloc, size, &rule)?;
+    let rule = Exchanged {
+        grid: &now.q,
+        first,
+        second,
+        rows: true,
+        columns: false,
+    };
+    let q = tabulate(alloc, size, &rule)?;
     Ok(Elimination { matrix, p, q })
 }
 
@@ -82,42 +73,30 @@ fn add_place(
     ensures refused { IfErr result (λ fault. CausedBy fault (add_place_fits (size_of now.now) to from (state now.now))) }
 {
     let size = now.matrix.size;
-    let columns = tabulate(
-        alloc,
-        size,
-        &AddedColumn {
-            grid: &now.matrix,
-            to,
-            from,
-        },
-    )?;
-    let matrix = tabulate(
-        alloc,
-        size,
-        &AddedRow {
-            grid: &columns,
-            to,
-            from,
-        },
-    )?;
-    let p = tabulate(
-        alloc,
-        size,
-        &AddedColumn {
-            grid: &now.p,
-            to,
-            from,
-        },
-    )?;
-    let q = tabulate(
-        alloc,
-        size,
-        &TakenRow {
-            grid: &now.q,
-            taken: to,
-            from,
-        },
-    )?;
+    let rule = AddedColumn {
+        grid: &now.matrix,
+        to,
+        from,
+    };
+    let columns = tabulate(alloc, size, &rule)?;
+    let rule = AddedRow {
+        grid: &columns,
+        to,
+        from,
+    };
+    let matrix = tabulate(alloc, size, &rule)?;
+    let rule = AddedColumn {
+        grid: &now.p,
+        to,
+        from,
+    };
+    let p = tabulate(alloc, size, &rule)?;
+    let rule = TakenRow {
+        grid: &now.q,
+        taken: to,
+        from,
+    };
+    let q = tabulate(alloc, size, &rule)?;
     Ok(Elimination { matrix, p, q })
 }
 
@@ -132,32 +111,23 @@ fn clear(alloc: Global, now: &Elimination, pivot: usize) -> Result<Elimination, 
 {
     let size = now.matrix.size;
     let before = &now.matrix;
-    let matrix = tabulate(
-        alloc,
-        size,
-        &ClearedMatrix {
-            matrix: before,
-            pivot,
-        },
-    )?;
-    let p = tabulate(
-        alloc,
-        size,
-        &ClearedColumns {
-            matrix: before,
-            grid: &now.p,
-            pivot,
-        },
-    )?;
-    let q = tabulate(
-        alloc,
-        size,
-        &GatheredRow {
-            matrix: before,
-            grid: &now.q,
-            pivot,
-        },
-    )?;
+    let rule = ClearedMatrix {
+        matrix: before,
+        pivot,
+    };
+    let matrix = tabulate(alloc, size, &rule)?;
+    let rule = ClearedColumns {
+        matrix: before,
+        grid: &now.p,
+        pivot,
+    };
+    let p = tabulate(alloc, size, &rule)?;
+    let rule = GatheredRow {
+        matrix: before,
+        grid: &now.q,
+        pivot,
+    };
+    let q = tabulate(alloc, size, &rule)?;
     Ok(Elimination { matrix, p, q })
 }
 

@@ -1,48 +1,28 @@
-//! Sums of reduced fractions, term by term.
+//! Sums of products of two lines, term by term, with reduced fractions.
 
-ghost use Rattle.std.specs.Prelude.{◌≡◌, ℕ, ◌<◌, ◌&&◌, Bool, pred};
-ghost use Rattle.inertia_laws.specs.Fractions as logic;
-ghost use Rattle.inertia_laws.specs.Fractions.{plus};
-ghost use Rattle.inertia_laws.specs.Range.{every, add_fits};
+ghost use Rattle.std.specs.Prelude.{◌≡◌, ℕ, ◌<◌, ◌&&◌, pred};
+ghost use Rattle.inertia_laws.specs.Fractions.{times};
+ghost use Rattle.inertia_laws.specs.Range.{every, multiply_fits};
 ghost use Rattle.inertia_laws.specs.Checking.{summed, sum_fits};
-ghost use Rattle.inertia_cert.specs.Values.{value, FormsAs};
+ghost use Rattle.inertia_cert.specs.Values.{FormsAs};
 
-use crate::arithmetic::plus;
+use crate::arithmetic::{plus_product, times};
 use crate::fraction::Fraction;
+use crate::lines::Line;
 
-/// A rule that gives each term of a sum, unless a number that it forms leaves 128 bits.
-pub(crate) trait Terms {
-    ghost count: { Self → ℕ };
-
-    ghost gives: { Self → ℕ → logic.Fraction };
-
-    ghost fits: { Self → ℕ → Bool };
-
-    /// The term at this place, counted from 0.
-    fn term(&self, place: usize) -> Option<Fraction>
-        requires { place < count self.now }
-        ensures { FormsAs result (fits self.now place) (gives self.now place) };
-}
-
-/// The sum and one more term.
-fn plus_term<T: Terms>(terms: &T, place: usize, sum: Fraction) -> Option<Fraction>
-    requires { place < T.count terms.now }
-    ensures { FormsAs result (T.fits terms.now place && add_fits (value sum) (T.gives terms.now place)) (plus (value sum) (T.gives terms.now place)) }
-{
-    let term = terms.term(place)?;
-    plus(sum, term)
-}
-
-/// The sum of the terms, which begins with the first and reduces each sum, unless a number that it
-/// forms leaves 128 bits.
-pub(crate) fn summed<T: Terms>(terms: &T, count: usize) -> Option<Fraction>
-    requires count { T.count terms.now ≡ count }
+/// The sum of the products of the lines' entries, which begins with the first product and reduces each sum,
+/// unless a number that it forms leaves 128 bits.
+pub(crate) fn dot<L: Line, R: Line>(left: &L, right: &R, count: usize) -> Option<Fraction>
+    requires left { L.size left.now ≡ count }
+    requires right { R.size right.now ≡ count }
     requires some { 0 < count }
-    ensures { FormsAs result (every count (T.fits terms.now) && sum_fits (pred count) (T.gives terms.now)) (summed (pred count) (T.gives terms.now)) }
+    ensures { FormsAs result
+        (every count (λ k. multiply_fits (L.gives left.now k) (R.gives right.now k)) && sum_fits (pred count) (λ k. times (L.gives left.now k) (R.gives right.now k)))
+        (summed (pred count) (λ k. times (L.gives left.now k) (R.gives right.now k))) }
 {
-    let mut sum = terms.term(0)?;
+    let mut sum = times(left.at(0), right.at(0))?;
     for place in 1..count {
-        sum = plus_term(terms, place, sum)?;
+        sum = plus_product(sum, left.at(place), right.at(place))?;
     }
     Some(sum)
 }

@@ -12,10 +12,13 @@ const LARGE: i64 = 1_152_921_504_606_846_976;
 
 /// Entries by rows, the size, and the counts of positive, negative and zero entries. The last two rows
 /// are a matrix whose first diagonal entry is 0, and E8's, which has eight of one sign.
-const COUNTS: [(&[i64], u32, u32, u32, u32); 5] = [
+const COUNTS: [(&[i64], u32, u32, u32, u32); 7] = [
     (&[], 0, 0, 0, 0),
     (&[0], 1, 0, 0, 1),
     (&[0, 1, 1, 0], 2, 1, 1, 0),
+    // A matrix congruent to the one before: place 1 taken from place 0.
+    (&[-2, 1, 1, 0], 2, 1, 1, 0),
+    (&[0, 1, 1, 1, 0, 0, 1, 0, 0], 3, 1, 1, 1),
     (&[0, 0, 0, 0, -5, 0, 0, 0, 7], 3, 1, 1, 1),
     (
         &[

@@ -6,7 +6,6 @@
 --     product_entry n a b i j   an entry of the product of two matrices of n rows
 --     product_fits n a b i j    the numbers that its products and sums form fit
 --     image_entry, congruence_entry    entries of L P, and of P-transposed times L P
---     whole_fits n l p i j      the numbers of an entry of P-transposed times L P with those of L P that it takes fit
 --     diagonal_matrix d         the diagonal as a matrix
 --     check_fits n l p q        each number that the check forms fits
 use Rattle.std.specs.Prelude.{ℕ, zero, suc, pred, Bool, true, ◌&&◌, ◌==◌, if◌then◌else◌, ℤ, pos}
@@ -46,11 +45,6 @@ congruence_fits n l p = product_fits n (λ i k. p k i) (image_entry n l p)
 -- every number that the entries of P Q, of L P and of P-transposed times L P form fits
 abbrev pub check_fits : ℕ → (ℕ → ℕ → ℤ) → (ℕ → ℕ → Fraction) → (ℕ → ℕ → Fraction) → Bool
 check_fits n l p q = every_place n (product_fits n p q) && (every_place n (image_fits n l p) && every_place n (congruence_fits n l p))
-
--- the numbers of an entry of P-transposed times L P, with those of the entries of L P that it takes
-abbrev pub whole_fits : ℕ → (ℕ → ℕ → ℤ) → (ℕ → ℕ → Fraction) → ℕ → ℕ → Bool
-whole_fits n l p i j =
-    every n (λ k. image_fits n l p k j && multiply_fits (p k i) (image_entry n l p k j)) && sum_fits (pred n) (λ k. times (p k i) (image_entry n l p k j))
 
 -- the diagonal as a matrix
 abbrev pub diagonal_matrix : (ℕ → Fraction) → ℕ → ℕ → Fraction

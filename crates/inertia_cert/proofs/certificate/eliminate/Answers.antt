@@ -5,14 +5,14 @@ use Rattle.inertia_cert.specs.Eliminations.{size_of, state}
 use Rattle.inertia_cert.proofs.Stages.{one_more, same_fit}
 use Rattle.inertia_cert.proofs.certificate.eliminate.Goals as goal
 
-pub returns-in-Err-OutOfBits-clause-range : goal.returns-in-Err-OutOfBits-clause-range
-returns-in-Err-OutOfBits-clause-range c = λ at e.
+pub returns-in-Err-OutOfBits-step-clause-range : goal.returns-in-Err-OutOfBits-step-clause-range
+returns-in-Err-OutOfBits-step-clause-range c = λ at e.
     let n = c.args.matrix.now.size in
     let k = c.loop-place.place in
     let within : k < n = omega (arith, c.size-place-end.ensures.value) in
     let step_is : k + 1 ≡ at = cc in
     let fit = same_fit n (size_of c.loop-place.now) k (entry c.args.matrix.now) c.loop-place.invariant.sized within (state c.loop-place.now) c.loop-place.invariant.reached in
-    let leaves = rw c.in-Err-OutOfBits.field-0-is at c.in-Err-OutOfBits.ensures.refused in
+    let leaves = rw c.in-Err-OutOfBits-step.field-0-is at c.in-Err-OutOfBits-step.ensures.refused in
     leaves_at n (entry c.args.matrix.now) k within c.loop-place.invariant.fit (sym fit ∙ leaves) ∙ ap Some (let same : suc k ≡ at = omega arith in same)
 
 pub loop-place-preserved : goal.loop-place-preserved

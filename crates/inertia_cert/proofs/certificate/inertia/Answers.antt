@@ -16,3 +16,8 @@ returns-clause-certifies c =
     same_certificate n l e.p e.q s.p s.q (λ i. e.m i i) (λ i. s.m i i)
     (λ i j hi hj. sym (h.p i j hi hj)) (λ i j hi hj. sym (h.q i j hi hj)) (λ i hi. sym (h.m i i hi hi))
     (eliminated_certifies n l c.size-size.ensures.matrix.symmetric)
+
+pub returns-clause-eliminated : goal.returns-clause-eliminated
+returns-clause-eliminated c =
+    let h = c.in_ok-done.ensures.made in
+    record { p = h.p; q = h.q; diagonal = λ i hi. h.m i i hi hi }
