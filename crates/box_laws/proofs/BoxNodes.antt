@@ -22,9 +22,7 @@ use Rattle.word_networks.proofs.Strands.{member_strands, strands_member, strands
 use Rattle.box_laws.specs.StrandBoxes.{is_boxed, place_of, point_at, mate_of, strand_box, IsBoxNode, AreNamedBeside}
 use Rattle.box_laws.proofs.StrandBoxes.{strand_point, mate_point, mate_boxed, mate_stands, place_below, point_place, boxed_bounds, mate_of-IsMating}
 use Rattle.list_lemmas.proofs.Ranges.{All-range}
-
-abbrev pub named : (ℕ → ℕ) → List ℕ → List (ℕ × ℕ)
-named name p = map (λ i. (name i, name (slice_index p i))) (range_with_len 0 (length p))
+use Rattle.strand_algebra.proofs.Contractions.{named}
 
 pub pair_edges-named : (name : ℕ → ℕ) (size : ℕ) (p : List ℕ) → IsPairingOf size p → pair_edges (map name (range_with_len 0 size)) p ≡ named name p
 pair_edges-named name size p h =

@@ -38,7 +38,7 @@ use Rattle.word_networks.proofs.Strands.{member_strands, strands_member, strand_
 use Rattle.box_laws.specs.StrandBoxes.{place_of, point_at, mate_of}
 use Rattle.box_laws.proofs.BoxNodes.{terms_on, box_node, in_inner, mate_inner, boxed_from}
 use Rattle.box_laws.proofs.Closings.{sum_of_closed, arc_edges, arcs_total, arc_edge, has_arc, arc_names}
-use Rattle.box_laws.proofs.HookProducts.{out_map}
+use Rattle.piece_laws.proofs.NameCounts.{member_mapped}
 use Rattle.box_laws.proofs.ProjectorCurls.{closed_member, strand_test}
 use Rattle.box_laws.proofs.StrandBoxes.{mate_of-IsMating, place_below, place_point, point_place}
 use Rattle.list_lemmas.proofs.Ranges.{is_member-range}
@@ -148,7 +148,7 @@ module _ (n : ℕ) (q : List ℕ) (hq : IsPairingOf (n + n) q) where
   behind = record {
     are_steps = close_are_steps inner (map name inner) 0 n (λ u lo hi. strands_member 0 n u lo hi);
     ends = λ z k.
-        (let r = out_map (λ j. name (at j)) R z k in let l = below_range 0 (n + n) r.0 r.1 in
+        (let r = member_mapped (λ j. name (at j)) R z k in let l = below_range 0 (n + n) r.0 r.1 in
         ap (is_member ◌==◌ (map name inner)) r.2 ∙ is_member-map name inner (at r.0) (in_inner 0 n name r.0 (omega (arith, l))));
     meets_all =
         All-map (λ z. is_member ◌==◌ (node.ends ++ names_of (step_nodes name (close_steps 0 n))) z ≡ true) name inner

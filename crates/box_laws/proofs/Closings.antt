@@ -1,7 +1,7 @@
 -- The loops of a closed pairing, by closing its strands one by one; and the value of a closed network of steps.
 use Rattle.std.proofs.Common.{◌≡◌, ◌≢◌, ℕ, zero, suc, ◌+◌, ◌-◌, ◌*◌, ◌^◌, ◌<◌, ◌≤◌, true, ◌==◌, List, [], ◌∷◌, refl, sym, ap, ap₂, ◌∙◌, arith, Contains, ⊎_elim, ◌⊎◌, inl, inr}
 use Rattle.std.specs.Set.{is_member}
-use Rattle.std.proofs.lemmas.Bool.{or_cases, eqb-true}
+use Rattle.std.proofs.lemmas.Bool.{or_cases, eqb-true, cases_eq}
 use Rattle.graph_parts.specs.Parts.{part_count}
 use Rattle.state_sums.specs.LocalSums.{pattern_sum}
 use Rattle.state_sums.specs.Networks.{Network, names_of}
@@ -9,7 +9,6 @@ use Rattle.state_sums.specs.StateSums.{states, state_edges, state_weight, state_
 use Rattle.state_sums.proofs.Sums.{total}
 use Rattle.strand_words.specs.Boxes.{bottom}
 use Rattle.strand_words.specs.Words.{top}
-use Rattle.strand_words.proofs.Hooks.{same_or_not}
 use Rattle.word_networks.specs.PlacedGrids.{close_steps}
 use Rattle.word_networks.specs.Steps.{names_after, step_nodes}
 use Rattle.list_lemmas.proofs.Sums.{sum_by_same}
@@ -53,7 +52,7 @@ module _ (name : ℕ → ℕ) where
   has_arc i (suc count) k lo hi =
       ⊎_elim (λ (e : i ≡ k). (1, omega arith, ap₂ (λ u v. (u, v)) (ap (λ n. name (bottom n)) e) (ap (λ n. name (top n)) e)))
       (λ (d : i ≢ k). (let r = has_arc (i + 1) count k (omega (arith, lo, d)) (omega (arith, hi)) in (suc (suc r.0), (let l = r.1 in omega (arith, l)), r.2)))
-      (same_or_not i k)
+      (cases_eq i k)
 
   pub arc_names : (i count z : ℕ) → is_member ◌==◌ (names_of (step_nodes name (close_steps i count))) z ≡ true → (k : ℕ) × (i ≤ k) × (k < i + count) × ((z ≡ name (top k)) ⊎ (z ≡ name (bottom k)))
   arc_names i zero z m = absurd (grind (arith, m))

@@ -1,20 +1,14 @@
 -- The factor of the curl of n strands beside a projector is mu_n: -A^3 for each strand, and A for each crossing of the twist that is left.
-use Rattle.std.proofs.Common.{◌≡◌, ◌+◌, ◌*◌, ◌%◌, ◌^◌, ◌<◌, ℕ, ℤ, pos, negsuc, ◌*ℤ◌, neg_ℤ, [], ◌∷◌, refl, sym, ap, ap₂, ◌∙◌, arith}
-use Rattle.ring_identities.specs.Residues.{Congruent, residue}
+use Rattle.std.proofs.Common.{◌≡◌, ◌+◌, ◌*◌, ◌%◌, ◌^◌, ◌<◌, ℕ, ℤ, pos, negsuc, ◌*ℤ◌, neg_ℤ, sym, ap, ap₂, ◌∙◌, arith}
+use Rattle.ring_identities.specs.Residues.{Congruent}
 use Rattle.ring_identities.specs.Powers.{power, sign, signed_power}
-use Rattle.ring_identities.proofs.Congruences.{congruent_eq, congruent_trans, congruent_sym, congruent_times, same_residue}
-use Rattle.ring_identities.proofs.Identities.{reads, by_ring}
+use Rattle.ring_identities.proofs.Congruences.{congruent_eq, congruent_trans, congruent_sym, congruent_times}
 use Rattle.ring_identities.proofs.PowerLemmas.{power-one, power-add, power-times, power-mul, power-pos, congruent_power}
 use Rattle.root_quantum.specs.QuantumNumbers.{inverse_root, twist, twist_factor}
 use Rattle.root_quantum.proofs.LawProofs.{twist_congruent}
 use Rattle.box_laws.specs.Laws.{CurlFactorLaw}
-
-to_naturals : {m : ℕ} (x y : ℕ) → 0 < m → Congruent m (pos x) (pos y) → x % m ≡ y % m
-unfolding residue
-to_naturals x y h c = same_residue h c
-
-regrouped : (x y z : ℤ) → x *ℤ y *ℤ z ≡ x *ℤ (y *ℤ z)
-regrouped x y z = by_ring (x ∷ y ∷ z ∷ []) (search reads depth 30) (search reads depth 30) refl
+use Rattle.piece_laws.proofs.ParameterNumbers.{to_naturals}
+use Rattle.ring_identities.proofs.Integers.{times_assoc}
 
 -- mu_1^k a^(k (k-1)) is mu_k
 factors : (a : ℤ) (n : ℕ) → power (twist_factor a 1) (n + 1) *ℤ power a ((n + 1) * n) ≡ twist_factor a (n + 1)
@@ -24,7 +18,7 @@ factors a n =
     let first : power (sign 1 *ℤ power a 3) k ≡ sign k *ℤ power a (3 * k) =
     power-times (sign 1) (power a 3) k ∙ ap₂ (λ x y. x *ℤ y) (ap (λ z. power z k) (power-one (neg_ℤ (pos 1)))) (sym (power-mul a 3 k)) in
     ap (λ z. z *ℤ power a (k * n)) first
-    ∙ regrouped (sign k) (power a (3 * k)) (power a (k * n))
+    ∙ times_assoc (sign k) (power a (3 * k)) (power a (k * n))
     ∙ ap (λ z. sign k *ℤ z) (sym (power-add a (3 * k) (k * n)))
     ∙ ap (λ e. sign k *ℤ power a e) (let e : 3 * (n + 1) + (n + 1) * n ≡ (n + 1) * (n + 1) + 2 * (n + 1) = omega arith in e)
 

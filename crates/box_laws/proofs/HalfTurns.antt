@@ -19,7 +19,7 @@ use Rattle.state_sums.proofs.Coefficients.{grouped, only}
 use Rattle.state_sums.proofs.NetworkLaws.{same_everywhere}
 use Rattle.piece_laws.specs.TurnedNodes.{AreInverse, turned_partner, turned_term, turned_node, weight_of}
 use Rattle.piece_laws.proofs.OneNode.{same_between}
-use Rattle.piece_laws.proofs.OtherTerms.{other_terms}
+use Rattle.piece_laws.proofs.OtherTerms.{other_terms, equal_from, picked}
 use Rattle.piece_laws.proofs.TurnedEnds.{turned_node_same, IsNode-turned, same_ends}
 use Rattle.graph_parts.proofs.Distinct.{is_member-append}
 use Rattle.strand_algebra.specs.Elements.{coefficient}
@@ -38,9 +38,6 @@ use Rattle.box_laws.proofs.ClosedBoxes.{element_pairings}
 abbrev half : ℕ → ℕ → ℕ
 half n i = cond (nat_lt i n) (i + n) (i - n)
 
-equal_from : (p q : List ℕ) → bytes_eq p q ≡ true → p ≡ q
-equal_from p q t = (bytes_eq-Decides p q).0 t
-
 equal_to : (p q : List ℕ) → p ≡ q → bytes_eq p q ≡ true
 equal_to p q e = (bytes_eq-Decides p q).1 e
 
@@ -54,10 +51,6 @@ module _ (n : ℕ) where
       same_bool (bytes_eq p (T q)) (bytes_eq (T p) q)
       (λ t. equal_to (T p) q (ap T (equal_from p (T q) t) ∙ turned_twice n (half n) (half_exchange n) q hq))
       (λ t. equal_to p (T q) (sym (turned_twice n (half n) (half_exchange n) p hp) ∙ ap T (equal_from (T p) q t)))
-
-  picked : (w : ℕ) (b : Bool) → w * cond b 1 0 ≡ cond b w 0
-  picked w true = omega arith
-  picked w false = omega arith
 
   as_they_are : (p : List ℕ) (f : List Term) → sum_by (λ t. t.weight * only bytes_eq equal_from (λ q. equal_to q q refl) p t.partner) f ≡ coefficient f p
   as_they_are p f = sum_by_same _ _ f (λ t. picked t.weight (bytes_eq p t.partner))
@@ -178,9 +171,9 @@ half_turned_box m delta free n g k f xs ys front back open_names some few is lef
     let is_half : (r : List ℕ) → half_of r ≡ half_turned n r = λ r. ap (λ z. turned_partner z (half n) (half n) r) size in
     ap (λ z. z % m)
     (sum_by-map (λ t. cond (bytes_eq partner t.partner) t.weight 0) (turned_term (length (ys ++ xs)) (half n) (half n)) f
-    ∙ sum_by_same _ _ f (λ t. sym (picked n t.weight (bytes_eq partner (half_of t.partner))) ∙ ap (λ r. t.weight * cond (bytes_eq partner r) 1 0) (is_half t.partner)))
+    ∙ sum_by_same _ _ f (λ t. sym (picked t.weight (bytes_eq partner (half_of t.partner))) ∙ ap (λ r. t.weight * cond (bytes_eq partner r) 1 0) (is_half t.partner)))
     ∙ sums_turned n m delta f some few is terms (λ r. cond (bytes_eq partner r) 1 0)
-    ∙ ap (λ z. z % m) (sum_by_same _ _ f (λ t. picked n t.weight (bytes_eq partner t.partner))) in
+    ∙ ap (λ z. z % m) (sum_by_same _ _ f (λ t. picked t.weight (bytes_eq partner t.partner))) in
     subst (λ ends. SameEverywhere m delta open_names record { nodes = front ++ old ∷ back; free_loops = free } record { nodes = front ++ record { group = k; ends = ends; terms = f } ∷ back; free_loops = free }) ends_are
     ((same_everywhere m delta open_names).on _ record { nodes = front ++ turned ∷ back; free_loops = free } _
     (turned_node_same m delta free (half n) (half n) old front back open_names old_ok p q inverse has)

@@ -1,8 +1,8 @@
 -- A hook above a pairing: its product hooks two of the pairing's tops, and closes a loop where these are partners.
-use Rattle.std.proofs.Common.{◌≡◌, ◌≢◌, ℕ, ◌+◌, ◌-◌, ◌<◌, ◌≤◌, Bool, true, false, cond, ◌==◌, ◌||◌, nat_lt, List, [], ◌∷◌, ◌++◌, map, slice_index, refl, sym, ap, ◌∙◌, arith, All, ⊎_elim, ◌⊎◌, inl, inr}
+use Rattle.std.proofs.Common.{◌≡◌, ◌≢◌, ℕ, ◌+◌, ◌-◌, ◌<◌, ◌≤◌, Bool, true, false, cond, ◌==◌, ◌||◌, nat_lt, List, ◌∷◌, ◌++◌, map, slice_index, refl, sym, ap, ◌∙◌, arith, All, ⊎_elim, ◌⊎◌, inl, inr}
 use Rattle.std.specs.List.{range_with_len}
 use Rattle.std.specs.Set.{is_member, distinct_count}
-use Rattle.std.proofs.lemmas.Bool.{cases_Bool, eq-eqb, eqb-true, or_cases}
+use Rattle.std.proofs.lemmas.Bool.{cases_Bool, eq-eqb, eqb-true, or_cases, cases_eq}
 use Rattle.std.proofs.lemmas.Bool.Decides.{nat_tests}
 use Rattle.std.proofs.lemmas.List.Elements.{All-append, All-map}
 use Rattle.std.proofs.lemmas.List.FromFn.{length-map-range_with_len, get_or-map-range_with_len}
@@ -19,10 +19,11 @@ use Rattle.strand_algebra.proofs.Stacks.{is_below, All-pairs, outer_below}
 use Rattle.strand_algebra.proofs.StraightStrands.{product_is, loops_none, low_edge, high_edge, seam_edge}
 use Rattle.list_lemmas.proofs.Ranges.{is_member-range, All-range}
 use Rattle.strand_words.specs.Matings.{IsMating, hooked}
-use Rattle.strand_words.proofs.Hooks.{hooked-IsMating, same_or_not}
+use Rattle.strand_words.proofs.Hooks.{hooked-IsMating}
 use Rattle.word_networks.specs.Strands.{strand_of, standing}
 use Rattle.word_networks.proofs.Strands.{standing-IsMating, strand_standing, halves}
 use Rattle.graph_parts.proofs.Through.{keeps_Joined}
+use Rattle.piece_laws.proofs.NameCounts.{member_mapped}
 
 -- ---- a pairing of so many points as a mating of all numbers: the others stand
 abbrev pub mate_in : ℕ → List ℕ → ℕ → ℕ
@@ -72,13 +73,6 @@ outer_plain n i j b l = grind (arith, nat_tests, b, l)
 
 not_there : (w : ℕ) (xs : List ℕ) → ((v : ℕ) → is_member ◌==◌ xs v ≡ true → w ≢ v) → is_member ◌==◌ xs w ≡ false
 not_there w xs h = ⊎_elim (λ t. absurd (h w t refl)) (λ f. f) (cases_Bool (is_member ◌==◌ xs w))
-
--- where a member of a mapped list comes from
-pub out_map : (f : ℕ → ℕ) (xs : List ℕ) (w : ℕ) → is_member ◌==◌ (map f xs) w ≡ true → (u : ℕ) × (is_member ◌==◌ xs u ≡ true) × (w ≡ f u)
-out_map f [] w m = absurd (grind (arith, m))
-out_map f (v ∷ xs) w m =
-    ⊎_elim (λ t. (v, grind (arith, nat_tests), eqb-true w (f v) t)) (λ s. (let r = out_map f xs w s in (r.0, (let k = r.1 in grind (arith, k)), r.2)))
-    (or_cases (w == f v) (is_member ◌==◌ (map f xs) w) m)
 
 module _ (n i : ℕ) (q : List ℕ) (hq : IsPairingOf (n + n) q) (b : i + 1 < n) where
   -- the two tops
@@ -136,9 +130,6 @@ module _ (n i : ℕ) (q : List ℕ) (hq : IsPairingOf (n + n) q) (b : i + 1 < n)
   -- ---- what the stack joins
   hook_at_x : slice_index h x ≡ y
   hook_at_x = hooked_at n i x (omega (arith, b)) ∙ grind (arith, nat_tests, b)
-
-  hook_at_y : slice_index h y ≡ x
-  hook_at_y = hooked_at n i y (omega (arith, b)) ∙ grind (arith, nat_tests, b)
 
   hook_at_i : slice_index h i ≡ i + 1
   hook_at_i = hooked_at n i i (omega (arith, b)) ∙ grind (arith, nat_tests, b)
@@ -224,10 +215,10 @@ module _ (n i : ℕ) (q : List ℕ) (hq : IsPairingOf (n + n) q) (b : i + 1 < n)
       listed j (Q j) l (at_others j x y (Q x) (Q y) (Q j) d f g k)
       (outer_joined j l d f ∙ pairs_joined j l
       ∙ sym (outer_joined (Q j) (Q_below j l) (λ t. g (sym (QM.back j) ∙ ap Q t)) (λ t. k (sym (QM.back j) ∙ ap Q t)))))
-      (same_or_not j (Q y)))
-      (same_or_not j (Q x)))
-      (same_or_not j y))
-      (same_or_not j x)
+      (cases_eq j (Q y)))
+      (cases_eq j (Q x)))
+      (cases_eq j y))
+      (cases_eq j x)
 
   -- THE PRODUCT
   pub hook_product : label_product n h q ≡ hooked_list
@@ -240,7 +231,7 @@ module _ (n i : ℕ) (q : List ℕ) (hq : IsPairingOf (n + n) q) (b : i + 1 < n)
   reach_low : (z : ℕ) → z < n + n → Reached z
   unfolding Reached
   reach_low z l =
-      ⊎_elim (λ e. inl (ap label e)) (λ d. ⊎_elim (λ e. inl (ap label e ∙ sym tops_joined)) (λ f. inr (z, l, sym (outer_joined z l d f))) (same_or_not z y)) (same_or_not z x)
+      ⊎_elim (λ e. inl (ap label e)) (λ d. ⊎_elim (λ e. inl (ap label e ∙ sym tops_joined)) (λ f. inr (z, l, sym (outer_joined z l d f))) (cases_eq z y)) (cases_eq z x)
 
   reach : (z : ℕ) → z < n + n + (n + n) → Reached z
   unfolding Reached
@@ -332,22 +323,22 @@ module _ (n i : ℕ) (q : List ℕ) (hq : IsPairingOf (n + n) q) (b : i + 1 < n)
       (λ r. (let u = ap (is_member ◌==◌ out) r.2 ∙ in_out r.0 r.1 in grind (arith, u))) (reach z l) in
       let none : is_member ◌==◌ out (label x) ≡ false =
       not_there (label x) out
-      (λ w m. (let t = out_map label (map (outer n) (range_with_len 0 (n + n))) w m in
-      let u = out_map (outer n) (range_with_len 0 (n + n)) t.0 t.1 in
+      (λ w m. (let t = member_mapped label (map (outer n) (range_with_len 0 (n + n))) w m in
+      let u = member_mapped (outer n) (range_with_len 0 (n + n)) t.0 t.1 in
       let bound = below_range 0 (n + n) u.0 u.1 in
       λ k. apart_outer e u.0 (omega (arith, bound)) (k ∙ t.2 ∙ ap label u.2))) in
       let below : distinct_count ◌==◌ all ≤ distinct_count ◌==◌ (label x ∷ out) =
       distinct_count-le_from_within all (label x ∷ out)
       (to_All (is_member ◌==◌ (label x ∷ out)) all (λ w m.
-      (let t = out_map label (range_with_len 0 size) w m in let bound = below_range 0 size t.0 t.1 in ap (is_member ◌==◌ (label x ∷ out)) t.2 ∙ reached t.0 (omega (arith, bound))))) in
+      (let t = member_mapped label (range_with_len 0 size) w m in let bound = below_range 0 size t.0 t.1 in ap (is_member ◌==◌ (label x ∷ out)) t.2 ∙ reached t.0 (omega (arith, bound))))) in
       let above : distinct_count ◌==◌ (label x ∷ out) ≤ distinct_count ◌==◌ all =
       distinct_count-le_from_within (label x ∷ out) all
       (to_All (is_member ◌==◌ all) (label x ∷ out) (λ w m.
       ⊎_elim
       (λ s. ap (is_member ◌==◌ all) (eqb-true w (label x) s) ∙ is_member-map label (range_with_len 0 size) x (is_member-range 0 size x (omega arith) (omega (arith, b))))
       (λ s.
-      (let t = out_map label (map (outer n) (range_with_len 0 (n + n))) w s in
-      let u = out_map (outer n) (range_with_len 0 (n + n)) t.0 t.1 in
+      (let t = member_mapped label (map (outer n) (range_with_len 0 (n + n))) w s in
+      let u = member_mapped (outer n) (range_with_len 0 (n + n)) t.0 t.1 in
       let bound = below_range 0 (n + n) u.0 u.1 in
       let o = outer_below n u.0 (omega (arith, bound)) in
       ap (is_member ◌==◌ all) (t.2 ∙ ap label u.2) ∙ is_member-map label (range_with_len 0 size) (outer n u.0) (is_member-range 0 size (outer n u.0) (omega arith) (omega (arith, o)))))
@@ -360,7 +351,7 @@ module _ (n i : ℕ) (q : List ℕ) (hq : IsPairingOf (n + n) q) (b : i + 1 < n)
 
   -- THE LOOPS
   pub hook_loops : label_loops n h q ≡ one_zero (Q x == y)
-  hook_loops = ⊎_elim (λ e. one_loop e ∙ sym (told (Q x) y e)) (λ d. no_loops d ∙ sym (untold (Q x) y d)) (same_or_not (Q x) y)
+  hook_loops = ⊎_elim (λ e. one_loop e ∙ sym (told (Q x) y e)) (λ d. no_loops d ∙ sym (untold (Q x) y d)) (cases_eq (Q x) y)
     where
       told : (u v : ℕ) → u ≡ v → one_zero (u == v) ≡ 1
       told u v e = grind (arith, nat_tests, e)

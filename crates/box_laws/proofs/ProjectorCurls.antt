@@ -31,7 +31,7 @@ use Rattle.word_networks.proofs.Strands.{member_strands, strands_member, strand_
 use Rattle.box_laws.specs.Laws.{ProjectorCurlLaw}
 use Rattle.box_laws.specs.StrandBoxes.{point_at, place_of, mate_of, strand_box}
 use Rattle.box_laws.proofs.BoxNodes.{terms_on, box_node, boxed_names, in_inner, mate_inner, boxed_from}
-use Rattle.box_laws.proofs.HookProducts.{out_map}
+use Rattle.piece_laws.proofs.NameCounts.{member_mapped}
 use Rattle.box_laws.proofs.Projectors.{projector_box}
 use Rattle.box_laws.proofs.StrandBoxes.{mate_of-IsMating, place_below, point_place}
 
@@ -118,7 +118,7 @@ projector_curl m a b delta w free n s v h f node other name worth some few numbe
     let other_behind : AreStepsBehind other inner after last [] = record {
       are_steps = tt;
       ends = λ z k.
-          (let r = out_map (λ i. last (point_at c c i)) (range_with_len 0 (c + c)) z (ap (λ ns. is_member ◌==◌ ns z) (sym other_is.ends) ∙ k) in
+          (let r = member_mapped (λ i. last (point_at c c i)) (range_with_len 0 (c + c)) z (ap (λ ns. is_member ◌==◌ ns z) (sym other_is.ends) ∙ k) in
           let l = below_range 0 (c + c) r.0 r.1 in
           ap (is_member ◌==◌ (map last inner)) r.2 ∙ is_member-map last inner (point_at c c r.0) (in_inner c c last r.0 (omega (arith, l))));
       meets_all =

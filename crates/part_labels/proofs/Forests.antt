@@ -1,13 +1,11 @@
 -- One change of a forest: what it stands for after one parent is replaced.
-use Rattle.std.proofs.Common.{◌≡◌, ◌≢◌, ℕ, ◌<◌, ◌≤◌, ◌==◌, List, length, get_or, set, min, max, get_or-set_other, sym, ap, ◌∙◌, arith, ⊎_elim, ◌⊎◌, inl, inr, length-set}
+use Rattle.std.proofs.Common.{◌≡◌, ◌≢◌, ℕ, ◌<◌, ◌≤◌, List, length, get_or, set, min, max, get_or-set_other, sym, ap, ◌∙◌, arith, ⊎_elim, ◌⊎◌, inl, inr, length-set}
 use Rattle.std.proofs.lemmas.Grind.{get_or-set_at}
-use Rattle.std.proofs.lemmas.Bool.{cases_Bool, cases_order, eqb-true, eq-eqb}
+use Rattle.std.proofs.lemmas.Bool.{cases_order}
 use Rattle.std.proofs.lemmas.Bool.Decides.{nat_tests}
 use Rattle.graph_parts.specs.LeastNames.{join_least}
 use Rattle.part_labels.specs.Forests.{IsDescending, StandsFor}
-
-same_or_other : (x y : ℕ) → (x ≡ y) ⊎ (x ≢ y)
-same_or_other x y = ⊎_elim (λ t. inl (eqb-true x y t)) (λ f. inr (λ e. let u = eq-eqb x y e in grind (arith, f, u))) (cases_Bool (x == y))
+use Rattle.std.proofs.lemmas.Bool.{cases_eq}
 
 module _ (parents : List ℕ) (at value : ℕ) (within : at < length parents) where
   long : length (set parents at value) ≡ length parents
@@ -25,7 +23,7 @@ module _ (parents : List ℕ) (at value : ℕ) (within : at < length parents) wh
       ⊎_elim
       (λ e. let s = set_same x e in omega (arith, s, e, le))
       (λ ne. let s = set_other x ne in let d = h x (omega (arith, l, n)) in omega (arith, s, d))
-      (same_or_other x at)
+      (cases_eq x at)
 
   -- A NAME HUNG ON ANOTHER OF ITS TREE
   pub StandsFor-halve : (label : ℕ → ℕ) → value < at → label value ≡ label at → StandsFor label parents → StandsFor label (set parents at value)
@@ -35,13 +33,13 @@ module _ (parents : List ℕ) (at value : ℕ) (within : at < length parents) wh
         ⊎_elim
         (λ e. ap label (set_same x e) ∙ like ∙ ap label (sym e))
         (λ ne. ap label (set_other x ne) ∙ h.same x (omega (arith, l, n)))
-        (same_or_other x at);
+        (cases_eq x at);
     root = λ x l r.
         let n = long in
         ⊎_elim
         (λ e. let s = set_same x e in absurd (omega (arith, s, e, r, below)))
         (λ ne. h.root x (omega (arith, l, n)) (sym (set_other x ne) ∙ r))
-        (same_or_other x at);
+        (cases_eq x at);
   }
 
 -- ONE ROOT HUNG ON ANOTHER
@@ -64,12 +62,12 @@ StandsFor-join label parents left right high low is_high is_low within top_left 
           ⊎_elim
           (λ e. ap new (set_same parents high low within x e) ∙ low_label ∙ sym (ap new e ∙ high_label))
           (λ ne. ap new (set_other parents high low within x ne) ∙ (let s = h.same x (omega (arith, l, n)) in rw s))
-          (same_or_other x high);
+          (cases_eq x high);
       root = λ x l r.
           ⊎_elim
           (λ e. ap new e ∙ high_label ∙ sym (set_same parents high low within x e) ∙ r)
           (λ ne.
           let s = h.root x (omega (arith, l, n)) (sym (set_other parents high low within x ne) ∙ r) in
           ⊎_elim (λ p. grind (arith, nat_tests, s, ne, p.0, p.1, is_low)) (λ p. grind (arith, nat_tests, s, ne, p.0, p.1, is_low)) either)
-          (same_or_other x high);
+          (cases_eq x high);
     }

@@ -1,15 +1,11 @@
 -- The value of a network stays where a run of its nodes moves to the front.
 use Rattle.std.proofs.Common.{◌≡◌, ℕ, ◌%◌, List, ◌++◌, sym, ap, ◌∙◌}
-use Rattle.state_sums.specs.Networks.{Node, names_of}
+use Rattle.state_sums.specs.Networks.{Node}
 use Rattle.state_sums.specs.StateSums.{value}
 use Rattle.state_sums.proofs.NodeOrder.{label_sum-moved}
 use Rattle.state_sums.proofs.Replacing.{HavePlaces-append}
 use Rattle.state_sums.proofs.StateEdges.{HavePlaces}
 use Rattle.state_sums.proofs.StateSums.{state_sum-labels}
-use Rattle.std.proofs.lemmas.List.Concat.{flat_map-append}
-
-pub names_both : (xs ys : List Node) → names_of (xs ++ ys) ≡ names_of xs ++ names_of ys
-names_both xs ys = flat_map-append (λ node. node.ends) xs ys
 
 -- A RUN OF NODES MOVES TO THE FRONT
 pub value_moved : (m delta free : ℕ) (front nodes behind : List Node) → HavePlaces front → HavePlaces nodes → HavePlaces behind →

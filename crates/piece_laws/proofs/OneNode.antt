@@ -2,7 +2,6 @@
 use Rattle.std.proofs.Common.{◌≡◌, ℕ, ◌%◌, ◌||◌, ◌==◌, List, [], ◌∷◌, ◌++◌, sum_by, refl, sym, ap, ◌∙◌, All}
 use Rattle.std.specs.List.{AllPass}
 use Rattle.std.specs.Set.{is_member}
-use Rattle.std.proofs.lemmas.List.Concat.{flat_map-append}
 use Rattle.std.proofs.lemmas.List.Elements.{All-append}
 use Rattle.std.proofs.lemmas.List.Sums.{sum_by-cons}
 use Rattle.graph_parts.proofs.Distinct.{is_member-append}
@@ -13,6 +12,7 @@ use Rattle.state_sums.proofs.Congruent.{add_same_mod, mul_same_mod}
 use Rattle.state_sums.proofs.LabelSums.{label_weighed}
 use Rattle.state_sums.proofs.Sums.{total, total-append}
 use Rattle.piece_laws.proofs.Alike.{alike}
+use Rattle.state_sums.proofs.NodeOrder.{names_of-three}
 
 -- sums agree modulo m where each summand does
 sum_by-mod : {X : Type 0} (m : ℕ) (f g : X → ℕ) (xs : List X) → ((x : X) → f x % m ≡ g x % m) → sum_by f xs % m ≡ sum_by g xs % m
@@ -25,20 +25,15 @@ total-mod m [] f g h = h []
 total-mod m (node ∷ nodes) f g h =
     sum_by-mod m _ _ node.terms (λ term. mul_same_mod m term.weight _ _ (total-mod m nodes _ _ (λ es. h (term_edges node term ++ es))))
 
--- the names with a run of nodes in the middle
-pub names_between : (front middle back : List Node) → names_of (front ++ (middle ++ back)) ≡ names_of front ++ (names_of middle ++ names_of back)
-names_between front middle back =
-    flat_map-append (λ n. n.ends) front (middle ++ back) ∙ ap (λ ns. names_of front ++ ns) (flat_map-append (λ n. n.ends) middle back)
-
 pub same_between : (front old new back : List Node) → ((u : ℕ) → is_member ◌==◌ (names_of old) u ≡ is_member ◌==◌ (names_of new) u) → (u : ℕ) →
     is_member ◌==◌ (names_of (front ++ (old ++ back))) u ≡ is_member ◌==◌ (names_of (front ++ (new ++ back))) u
 same_between front old new back h u =
-    ap (λ ns. is_member ◌==◌ ns u) (names_between front old back)
+    ap (λ ns. is_member ◌==◌ ns u) (names_of-three front old back)
     ∙ is_member-append (names_of front) (names_of old ++ names_of back) u
     ∙ ap (λ t. is_member ◌==◌ (names_of front) u || t)
     (is_member-append (names_of old) (names_of back) u ∙ ap (λ t. t || is_member ◌==◌ (names_of back) u) (h u) ∙ sym (is_member-append (names_of new) (names_of back) u))
     ∙ sym (is_member-append (names_of front) (names_of new ++ names_of back) u)
-    ∙ sym (ap (λ ns. is_member ◌==◌ ns u) (names_between front new back))
+    ∙ sym (ap (λ ns. is_member ◌==◌ ns u) (names_of-three front new back))
 
 -- A RUN OF NODES IN ANOTHER FORM
 pub run_alike : (m delta free : ℕ) (front old new back : List Node) (open_names : List ℕ) → All IsNode front → All IsNode old → All IsNode new → All IsNode back →

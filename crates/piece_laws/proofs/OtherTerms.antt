@@ -13,13 +13,13 @@ use Rattle.piece_laws.specs.TurnedNodes.{weight_of}
 use Rattle.piece_laws.proofs.Alike.{weighed_alike}
 use Rattle.piece_laws.proofs.OneNode.{run_alike, same_between}
 
-equal_from : (p q : List ℕ) → bytes_eq p q ≡ true → p ≡ q
+pub equal_from : (p q : List ℕ) → bytes_eq p q ≡ true → p ≡ q
 equal_from p q t = (bytes_eq-Decides p q).0 t
 
 equal_itself : (p : List ℕ) → bytes_eq p p ≡ true
 equal_itself p = (bytes_eq-Decides p p).1 refl
 
-picked : (w : ℕ) (b : Bool) → w * cond b 1 0 ≡ cond b w 0
+pub picked : (w : ℕ) (b : Bool) → w * cond b 1 0 ≡ cond b w 0
 picked w true = omega arith
 picked w false = omega arith
 

@@ -13,7 +13,8 @@ use Rattle.piece_laws.specs.Laws.{SkeinNumbersLaw}
 modulus_positive : (p : Parameters) → 0 < p.modulus
 modulus_positive p = omega (arith, p.meets.modulus.0)
 
-to_naturals : {m : ℕ} (x y : ℕ) → 0 < m → Congruent m (pos x) (pos y) → x % m ≡ y % m
+-- congruent natural numbers have one remainder
+pub to_naturals : {m : ℕ} (x y : ℕ) → 0 < m → Congruent m (pos x) (pos y) → x % m ≡ y % m
 unfolding residue
 to_naturals x y h c = same_residue h c
 

@@ -27,9 +27,10 @@ use Rattle.piece_laws.specs.Laws.{PieceAnywhereLaw}
 use Rattle.piece_laws.specs.Pieces.{IsPiece, ArePaired}
 use Rattle.piece_laws.proofs.ArcEdges.{names_of-arcs, IsNode-arcs, HavePlaces-all_arcs}
 use Rattle.piece_laws.proofs.Closing.{arcs_close, none_counted}
-use Rattle.piece_laws.proofs.MovedRuns.{value_moved, names_both}
+use Rattle.piece_laws.proofs.MovedRuns.{value_moved}
 use Rattle.piece_laws.proofs.NameCounts.{times_one, times_both, member_mapped, bound, below_bound}
 use Rattle.piece_laws.proofs.RenamedNodes.{rename_via, rename_fixed, rename-append}
+use Rattle.std.proofs.lemmas.List.Concat.{flat_map-append}
 
 -- ---- fresh names for open ones
 module _ (big : ℕ) (r : ℕ → ℕ) (open_names : List ℕ) (low : (u : ℕ) → is_member ◌==◌ open_names u ≡ true → r u < big) where
@@ -206,7 +207,7 @@ module _ (big : ℕ) (r : ℕ → ℕ) (open_names : List ℕ) (low : (u : ℕ) 
         let u = q.0 in
         let t = from_All (is_member ◌==◌ names) open_names piece.has_open u q.1 in
         let there : is_member ◌==◌ all (apart u) ≡ true =
-        ap (λ ns. is_member ◌==◌ ns (apart u)) (names_both (rename apart nodes) rest)
+        ap (λ ns. is_member ◌==◌ ns (apart u)) (flat_map-append (λ node. node.ends) (rename apart nodes) rest)
         ∙ is_member-append (names_of (rename apart nodes)) (names_of rest) (apart u)
         ∙ or_left (is_member ◌==◌ (names_of (rename apart nodes)) (apart u)) (is_member ◌==◌ (names_of rest) (apart u)) (ap (λ ns. is_member ◌==◌ ns (apart u)) (names_of-rename apart nodes) ∙ is_member-map apart names u t) in
         let mapped = is_member-map home all (apart u) there in

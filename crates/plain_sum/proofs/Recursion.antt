@@ -134,16 +134,6 @@ sum_end m delta free names [] edges parts more value none parts_are free_is is =
     is ∙ ap (residue m) (power-pos delta (parts + more)) ∙ ap (λ k. delta ^ (k + more) % m) parts_are ∙ ap (λ k. delta ^ (part_count names edges + k) % m) free_is
 sum_end m delta free names (node ∷ nodes) edges parts more value none parts_are free_is is = absurd (omega (arith, none))
 
--- the sum over all terms of the first node
-pub sum_all : (m delta free : ℕ) (names : List ℕ) (nodes : List Node) (node : Node) (edges : List (ℕ × ℕ)) (items : List Term) (i s : ℕ) → 0 < length nodes → node ≡ get_or nodes 0 node →
-    items ≡ node.terms → length items ≤ i → s ≡ sum_by (term_behind delta names free nodes edges) (take i items) % m → s ≡ sum_behind delta names free nodes edges % m
-sum_all m delta free names nodes node edges items i s some is items_are all so_far =
-    let split = first_and_rest nodes node some is in
-    so_far
-    ∙ ap (λ ts. sum_by (term_behind delta names free nodes edges) ts % m) (take_all i items all ∙ items_are)
-    ∙ ap (λ ns. sum_by (term_behind delta names free ns edges) node.terms % m) split
-    ∙ ap (λ ns. sum_behind delta names free ns edges % m) (sym split)
-
 -- the sum behind edges is the nested sum
 sum_behind_is : (delta : ℕ) (names : List ℕ) (free : ℕ) (nodes : List Node) (edges : List (ℕ × ℕ)) →
     sum_behind delta names free nodes edges ≡ total nodes (λ es. delta ^ (part_count names (edges ++ es) + free))

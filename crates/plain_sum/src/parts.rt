@@ -9,7 +9,7 @@ ghost use Rattle.plain_sum.specs.Places.{named, AreWithin};
 use std::alloc::{AllocError, Global};
 
 /// Writes `to` over each `from`.
-fn turn(labels: &mut [u32], from: u32, to: u32)
+fn replace_labels(labels: &mut [u32], from: u32, to: u32)
     ensures { labels.new ≡ map (replaced from to) labels.old }
 {
     for label in labels.iter_mut() {
@@ -47,7 +47,7 @@ pub(crate) fn count_parts(
     for edge in edges {
         let from = labels[edge.0];
         let to = labels[edge.1];
-        turn(labels.as_mut_slice(), from, to);
+        replace_labels(labels.as_mut_slice(), from, to);
     }
     Ok(distinct(&labels))
 }

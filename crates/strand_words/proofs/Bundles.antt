@@ -4,10 +4,10 @@ use Rattle.state_sums.specs.LocalSums.{AreSkeinNumbers}
 use Rattle.strand_words.specs.Words.{Letter, SameWord}
 use Rattle.strand_words.specs.Grids.{crossed, row, grid, raised}
 use Rattle.strand_words.proofs.Braids.{over_under}
-use Rattle.strand_words.proofs.Hooks.{same_or_not}
 use Rattle.strand_words.proofs.Rewriting.{itself, back, on, same, behind, before, letter_far, far_words}
 use Rattle.strand_words.proofs.Slides.{moved, IsCrossing, IsBraid, third_left, row-IsFrom, grid-IsBelow, slide_grid}
 use Rattle.piece_laws.proofs.SkeinEquations.{exchanged_numbers}
+use Rattle.std.proofs.lemmas.Bool.{cases_eq}
 
 module _ (m a b delta : ℕ) (numbers : AreSkeinNumbers m a b delta) where
   -- ---- a bundle in two parts
@@ -83,7 +83,7 @@ module _ (m a b delta : ℕ) (numbers : AreSkeinNumbers m a b delta) where
       (on (same (append_assoc first (moved j p ∷ []) rest))
       (on (behind first (left_letter s j c i (suc rows) u p l (omega (arith, l, h, n))))
       (same (sym (append_assoc first rest (moved j (p + u) ∷ [])))))))
-      (same_or_not (i + rows) p)
+      (cases_eq (i + rows) p)
 
   -- A WORD SLIDES THROUGH A BUNDLE TO ITS RIGHT
   pub slide_left : (s : Bool) (w : List Letter) (i rows columns : ℕ) → IsBraid a b i (i + rows) w →

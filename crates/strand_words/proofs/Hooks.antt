@@ -1,6 +1,6 @@
 -- The relations of hooks on matings: Temperley and Lieb's.
-use Rattle.std.proofs.Common.{◌≡◌, ◌≢◌, ℕ, ◌*◌, ◌==◌, sym, ap, ◌∙◌, arith, ◌⊎◌, inl, inr, ⊎_elim}
-use Rattle.std.proofs.lemmas.Bool.{cases_Bool, eqb-true, eq-eqb}
+use Rattle.std.proofs.Common.{◌≡◌, ◌≢◌, ℕ, ◌*◌, sym, ap, ◌∙◌, arith, ⊎_elim}
+use Rattle.std.proofs.lemmas.Bool.{cases_eq}
 use Rattle.std.proofs.lemmas.Bool.Decides.{nat_tests}
 use Rattle.strand_words.specs.Matings.{IsMating, hooked, loop_worth}
 
@@ -65,10 +65,6 @@ hooked_forth p q r mate h d e f =
     ∙ hooked_back r q p mate h (λ t. e (sym t)) (λ t. d (sym t)) (λ t. f (sym t))
     ∙ sym rq
 
--- FAR APART
-pub same_or_not : (x y : ℕ) → (x ≡ y) ⊎ (x ≢ y)
-same_or_not x y = ⊎_elim (λ t. inl (eqb-true x y t)) (λ f. inr (λ e. (let t = eq-eqb x y e in grind (arith, t, f)))) (cases_Bool (x == y))
-
 module _ (p q r s : ℕ) (mate : ℕ → ℕ) (h : IsMating mate) (d : p ≢ q) (e : p ≢ r) (f : p ≢ s) (g : q ≢ r) (i : q ≢ s) (j : r ≢ s) (x : ℕ) where
   abbrev Far : Type 0
   Far = hooked p q (hooked r s mate) x ≡ hooked r s (hooked p q mate) x
@@ -77,13 +73,13 @@ module _ (p q r s : ℕ) (mate : ℕ → ℕ) (h : IsMating mate) (d : p ≢ q) 
   far_p t =
       let ap_ = h.apart p in let aq = h.apart q in let ar = h.apart r in let as_ = h.apart s in
       let bp = h.back p in let bq = h.back q in let bs = h.back s in let bx = h.back x in
-      ⊎_elim (λ u. grind (arith, nat_tests, t, u)) (λ u. grind (arith, nat_tests, t, u)) (same_or_not (mate q) s)
+      ⊎_elim (λ u. grind (arith, nat_tests, t, u)) (λ u. grind (arith, nat_tests, t, u)) (cases_eq (mate q) s)
 
   far_q : mate p ≡ s → Far
   far_q t =
       let ap_ = h.apart p in let aq = h.apart q in let ar = h.apart r in let as_ = h.apart s in
       let bp = h.back p in let bq = h.back q in let br = h.back r in let bx = h.back x in
-      ⊎_elim (λ u. grind (arith, nat_tests, t, u)) (λ u. grind (arith, nat_tests, t, u)) (same_or_not (mate q) r)
+      ⊎_elim (λ u. grind (arith, nat_tests, t, u)) (λ u. grind (arith, nat_tests, t, u)) (cases_eq (mate q) r)
 
   far_r : mate p ≢ r → mate p ≢ s → mate q ≡ r → Far
   far_r t u v =
@@ -107,8 +103,8 @@ module _ (p q r s : ℕ) (mate : ℕ → ℕ) (h : IsMating mate) (d : p ≢ q) 
   far_at : Far
   far_at =
       ⊎_elim far_p
-      (λ t. ⊎_elim far_q (λ u. ⊎_elim (far_r t u) (λ v. ⊎_elim (far_s t u) (far_none t u v) (same_or_not (mate q) s)) (same_or_not (mate q) r)) (same_or_not (mate p) s))
-      (same_or_not (mate p) r)
+      (λ t. ⊎_elim far_q (λ u. ⊎_elim (far_r t u) (λ v. ⊎_elim (far_s t u) (far_none t u v) (cases_eq (mate q) s)) (cases_eq (mate q) r)) (cases_eq (mate p) s))
+      (cases_eq (mate p) r)
 
 pub hooked_far : (p q r s : ℕ) (mate : ℕ → ℕ) → IsMating mate → p ≢ q → p ≢ r → p ≢ s → q ≢ r → q ≢ s → r ≢ s →
     hooked p q (hooked r s mate) ≡ hooked r s (hooked p q mate)

@@ -4,9 +4,9 @@ use Rattle.state_sums.specs.LocalSums.{AreSkeinNumbers}
 use Rattle.strand_words.specs.Words.{Letter, SameWord, over, under, inverted}
 use Rattle.strand_words.specs.Grids.{crossed, row, grid, raised}
 use Rattle.strand_words.proofs.Braids.{over_under, braided}
-use Rattle.strand_words.proofs.Hooks.{same_or_not}
 use Rattle.strand_words.proofs.Rewriting.{back, on, same, behind, before, far_letters, letter_far, IsBelow, IsFrom, IsBelow-append}
 use Rattle.piece_laws.proofs.SkeinEquations.{exchanged_numbers}
+use Rattle.std.proofs.lemmas.Bool.{cases_eq}
 
 -- the letter at another place
 abbrev pub moved : Letter → ℕ → Letter
@@ -101,7 +101,7 @@ module _ (m a b delta : ℕ) (numbers : AreSkeinNumbers m a b delta) where
       (λ (n : i ≢ p).
       on (before (row a b s (i + 1) (suc count)) (back (far_letters (crossed a b s i) (moved j (p + 1)) (omega (arith, l, n)))))
       (behind (crossed a b s i ∷ []) (slide_letter s j c (i + 1) (suc count) p (omega (arith, l, n)) (omega (arith, h)))))
-      (same_or_not i p)
+      (cases_eq i p)
 
   -- A WORD SLIDES THROUGH A ROW
   pub slide_row : (s : Bool) (w : List Letter) (i count : ℕ) → IsBraid a b i (i + count) w → SameWord m delta (raised 1 w ++ row a b s i count) (row a b s i count ++ w)

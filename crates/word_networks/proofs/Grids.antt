@@ -4,10 +4,10 @@ use Rattle.std.proofs.lemmas.Bool.Decides.{nat_tests}
 use Rattle.state_sums.specs.LocalSums.{crossing}
 use Rattle.strand_words.specs.Words.{Letter, top}
 use Rattle.strand_words.specs.Grids.{crossed, row, grid}
-use Rattle.strand_words.proofs.Hooks.{same_or_not}
 use Rattle.word_networks.specs.GridNetworks.{row_nodes, grid_nodes, row_steps, grid_steps, FitsGrid, FollowsGrid}
 use Rattle.word_networks.specs.Spelling.{Spells}
 use Rattle.word_networks.specs.Steps.{Step, letter, pass, join, named, name_after, names_after, step_nodes}
+use Rattle.std.proofs.lemmas.Bool.{cases_eq}
 
 pub names_after-append : (name : ℕ → ℕ) (s t : List Step) → names_after name (s ++ t) ≡ names_after (names_after name s) t
 names_after-append name [] t = refl
@@ -82,7 +82,7 @@ module _ (x y : ℕ) (v h : ℕ → ℕ → ℕ) where
       row_others (next name place i j) (place + 1) i (j + 1) count (top place) (λ n l m t. omega (arith, l, t)) ∙ next_left name place i j in
       ⊎_elim (λ (t : place ≡ k). ap (λ n. after (top n)) (sym t) ∙ first ∙ ap (v (i + 1)) (let u : j ≡ c = omega (arith, e, t) in u))
       (λ (t : place ≢ k). row_north (next name place i j) (place + 1) i (j + 1) count k c (omega (arith, lo, t)) (omega (arith, hi)) (omega (arith, e)))
-      (same_or_not place k)
+      (cases_eq place k)
 
   -- ---- the grid
   first_row : (name : ℕ → ℕ) (place i rows columns : ℕ) → FitsGrid name v h place i (suc rows) columns → FitsRow name (place + rows) i 0 columns
@@ -133,7 +133,7 @@ module _ (x y : ℕ) (v h : ℕ → ℕ → ℕ) where
             ∙ row_east name (place + rows) i 0 columns (first_row name place i rows columns f) k columns (omega (arith, t)) (omega arith)
             ∙ ap (λ n. h n columns) (let w : i ≡ r = omega (arith, e, t) in w))
             (λ (t : place + columns + rows ≢ k). ih.east k r lo (omega (arith, hi, t)) (omega (arith, e)) some)
-            (same_or_not (place + columns + rows) k);
+            (cases_eq (place + columns + rows) k);
         others = λ u d. whole u ∙ others u d;
       }
     where

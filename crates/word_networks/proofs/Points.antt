@@ -8,9 +8,10 @@ use Rattle.graph_parts.proofs.Counting.{label_count-relabel, distinct_count-cons
 use Rattle.graph_parts.proofs.Ends.{is_member-itself}
 use Rattle.graph_parts.proofs.PartLaws.{label_count-same_names}
 use Rattle.strand_words.specs.Matings.{IsMating, hooked}
-use Rattle.strand_words.proofs.Hooks.{same_or_not, hooked-IsMating}
+use Rattle.strand_words.proofs.Hooks.{hooked-IsMating}
 use Rattle.word_networks.specs.Steps.{without}
 use Rattle.word_networks.proofs.Labels.{relabel_tells, label_none}
+use Rattle.std.proofs.lemmas.Bool.{cases_eq}
 
 -- labels tell points apart as the mating does
 abbrev pub Tells : List ℕ → (ℕ → ℕ) → (ℕ → ℕ) → Type 0
@@ -100,7 +101,7 @@ module _ (points : List ℕ) (p q : ℕ) (mate f : ℕ → ℕ) (h : IsMating ma
 
   -- q's label is among those of the others just where its old mate is
   label_met : is_member ◌==◌ (map after others) (after q) ≡ not (mate p == q)
-  label_met = ⊎_elim mates_met apart_met (same_or_not (mate p) q)
+  label_met = ⊎_elim mates_met apart_met (cases_eq (mate p) q)
     where
       mates_met : mate p ≡ q → is_member ◌==◌ (map after others) (after q) ≡ not (mate p == q)
       mates_met e =

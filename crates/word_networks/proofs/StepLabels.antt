@@ -5,10 +5,11 @@ use Rattle.std.proofs.lemmas.Bool.Decides.{nat_tests}
 use Rattle.graph_parts.specs.Labels.{relabel, label_count}
 use Rattle.graph_parts.proofs.Counting.{label_count-relabel}
 use Rattle.strand_words.specs.Matings.{IsMating, hooked}
-use Rattle.strand_words.proofs.Hooks.{same_or_not, hooked-IsMating, hooked_mates, hooked-meets, hooked_turned}
+use Rattle.strand_words.proofs.Hooks.{hooked-IsMating, hooked_mates, hooked-meets, hooked_turned}
 use Rattle.word_networks.specs.Steps.{named, without}
 use Rattle.word_networks.proofs.Labels.{World, World-appear, World-edge, label_apart, count_appear, relabel_tells}
 use Rattle.word_networks.proofs.Points.{Tells, IsClosed, IsClosed-hooked, IsClosed-without, is_member-without, hooked_tells, count_without}
+use Rattle.std.proofs.lemmas.Bool.{cases_eq}
 
 -- labels, names and a mating that fit one another
 pub record State (l : ℕ → ℕ) (seen : List ℕ) (name : ℕ → ℕ) (points : List ℕ) (mate : ℕ → ℕ) : Type 0 where
@@ -141,8 +142,8 @@ told_plain k left right ku kv p q u v mu mv d e f g h i j n o =
     (λ (b : u ≢ q).
     let x = f a b in let y = o a b in
     grind (arith, nat_tests, a, b, d, e, x, y, j, n))
-    (same_or_not u q))
-    (same_or_not u p)
+    (cases_eq u q))
+    (cases_eq u p)
 
 cond_name : (k name : ℕ → ℕ) (p q left right u : ℕ) → k (named (named name q right) p left u) ≡ cond (u == p) (k left) (cond (u == q) (k right) (k (name u)))
 cond_name k name p q left right u =

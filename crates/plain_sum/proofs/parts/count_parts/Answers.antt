@@ -21,7 +21,7 @@ loop-edge-preserved c =
     let s = one_more c.args.names.now edges i c.loop-edge-test.true c.requires items c.loop-edge.invariant in
     let values = ap (λ ls. map (replaced c.index-from.result.now c.index-to.result.now) ls) c.as_mut_slice.ensures.value in
     let ends = ap (λ k. map (replaced k c.index-to.result.now) items) f ∙ ap (λ k. map (replaced (get_or items e.0 0) k) items) t in
-    grind (arith, common_steps, s, values, ends, c.turn.ensures)
+    grind (arith, common_steps, s, values, ends, c.replace_labels.ensures)
 
 pub returns-clause-value : goal.returns-clause-value
 returns-clause-value c =

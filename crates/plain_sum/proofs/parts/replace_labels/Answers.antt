@@ -2,8 +2,8 @@ use Rattle.std.proofs.Common.{arith}
 use Rattle.std.proofs.lemmas.Grind.{common_steps}
 use Rattle.std.proofs.lemmas.List.Edits.{map_over_more}
 use Rattle.graph_parts.specs.Renaming.{replaced}
-use Rattle.plain_sum.proofs.parts.turn.Goals as goal
-use Rattle.plain_sum.proofs.parts.turn.Goals.{then-label-from, else-label-from}
+use Rattle.plain_sum.proofs.parts.replace_labels.Goals as goal
+use Rattle.plain_sum.proofs.parts.replace_labels.Goals.{then-label-from, else-label-from}
 
 pub loop-label-preserved : goal.loop-label-preserved
 loop-label-preserved c =
