@@ -37,6 +37,7 @@ count-parted label (n ∷ xs) =
     let here = count_by-cons (λ m. m == label) n xs in
     omega (arith, ih, one, up, low, here)
 
+-- TWO SEARCHES COUNT A LABEL
 pub times-searches : (label : ℕ) (xs : List ℕ) (below up_to : ℕ) → below ≤ length xs → up_to ≤ length xs → IsPartitionPoint (λ n. ltb n label ≡ true) (λ n. ltb n label ≡ false) xs below → IsPartitionPoint (λ n. leb n label ≡ true) (λ n. leb n label ≡ false) xs up_to
     → (below ≤ up_to) × (up_to - below ≡ times label xs)
 times-searches label xs below up_to in_below in_up_to low high =

@@ -66,6 +66,6 @@ none_kept : (ls ns : List ℕ) → AllByRecursion (λ n. times n ls ≡ 2) ns �
 none_kept ls [] h = refl
 none_kept ls (n ∷ ns) h = let even : is_unpaired ls n ≡ false = rw (eq-eqb (times n ls) 2 h.0) refl in rw even (none_kept ls ns h.1)
 
--- where each label stands twice, none is left out
+-- WHERE EACH LABEL STANDS TWICE, NONE IS LEFT OUT
 pub none_is_unpaired : (ls : List ℕ) → AllByRecursion (λ n. times n ls ≡ 2) ls → least_unpaired ls ≡ None
 none_is_unpaired ls h = ap least (none_kept ls ls h)

@@ -45,6 +45,7 @@ place_there bytes n =
       ]
     ]
 
+-- no byte is a letter and a digit
 no_both : (byte : ℕ) → is_letter byte ≡ true → is_digit byte ≡ true → ⊥
 no_both byte letter digit = absurd (grind (arith, nat_tests, letter, digit))
 

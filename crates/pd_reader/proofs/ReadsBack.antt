@@ -26,5 +26,6 @@ text_items : (vs : List Item) → AllByRecursion HasItsSlots vs → AllByRecursi
 text_items [] sizes h = tt
 text_items (v ∷ vs) sizes h = (text_item v sizes.0 (front_part (item_labels v) (labels item_labels vs) h), text_items vs sizes.1 (back_part (item_labels v) (labels item_labels vs) h))
 
+-- THE CANONICAL SPELLING IS A TEXT
 pub written_is_read_lem : WrittenIsRead
 written_is_read_lem vs d h = (text_items vs d.sizes h, IsSpelled-concat (pd_tokens vs))

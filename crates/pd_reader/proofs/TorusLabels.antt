@@ -129,6 +129,7 @@ all_in_range : (n : ℕ) → n ≤ 256 → (ls : List ℕ) → AllByRecursion (U
 all_in_range n most [] h = tt
 all_in_range n most (l ∷ ls) h = (record { low = h.0.0; high = omega (arith, h.0) }, all_in_range n most ls h.1)
 
+-- THE TORUS LINK IS A DIAGRAM
 pub torus_is_diagram : (n : ℕ) → 1 ≤ n → n ≤ 256 → IsDiagram (torus_items n)
 torus_is_diagram n least most =
     let last : Item = items.X (2 * n ∷ 2 ∷ 1 ∷ (2 * n - 1) ∷ []) in

@@ -1,4 +1,3 @@
-pub mod FaultsLemmas
 pub mod SourceLemmas
 pub mod SinkLemmas
 mod Examples

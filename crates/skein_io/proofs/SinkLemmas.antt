@@ -1,17 +1,12 @@
 -- Bytes appended one part after the other. If xs are appended and then ys, xs ++ ys are appended.
 -- By cases on whether the sink tells.
 --
---     Appends-nothing    no bytes were appended
 --     Appends-more       one part after the other
 --     Appends-next       the next bytes of a piece, behind its first ones
-use Rattle.std.proofs.Common.{◌≡◌, ℕ, ◌+◌, ◌-◌, List, [], ◌++◌, length, take, drop, Option, Some, None, refl, sym, ap, ◌∙◌, subst, append_assoc, append-nil, arith}
+use Rattle.std.proofs.Common.{◌≡◌, ℕ, ◌+◌, ◌-◌, List, ◌++◌, length, take, drop, Option, Some, None, sym, ap, ◌∙◌, subst, append_assoc, arith}
 use Rattle.std.proofs.lemmas.Grind.{common_steps}
 use Rattle.std.proofs.Math.Seq.{take-add}
 use Rattle.skein_io.specs.Sink.{Appends}
-
-pub Appends-nothing : (taken : Option (List ℕ)) → Appends taken [] taken
-Appends-nothing None = refl
-Appends-nothing (Some bytes) = ap (λ (z : List ℕ). Some z) (sym (append-nil bytes))
 
 pub Appends-more : (a : Option (List ℕ)) (xs : List ℕ) (b : Option (List ℕ)) (ys : List ℕ) (c : Option (List ℕ))
     → Appends a xs b → Appends b ys c → Appends a (xs ++ ys) c
@@ -23,6 +18,7 @@ Appends-more (Some bytes) xs b ys c first second =
 to_end : (sent : ℕ) (piece : List ℕ) → take (length piece - sent) (drop sent piece) ≡ drop sent piece
 to_end sent piece = grind (arith, common_steps)
 
+-- THE NEXT BYTES OF A PIECE
 pub Appends-next : (a b c : Option (List ℕ)) (sent count : ℕ) (piece : List ℕ)
     → Appends a (take sent piece) b
     → Appends b (take count (take (length piece - sent) (drop sent piece))) c

@@ -1,19 +1,13 @@
--- Bytes taken one part after the other. If xs are taken and then ys, xs ++ ys are taken, and where
--- nothing is left behind them they are all that was left. By cases on whether the source tells.
+-- Bytes taken one part after the other. If xs are taken and then ys, xs ++ ys are taken. By
+-- cases on whether the source tells.
 --
---     Takes-nothing    no bytes were taken
 --     Takes-more       one part after the other
---     Takes-all        nothing is left behind them
 --     TakesExactly-told
 --                      where limit + 1 bytes were taken, more than limit were left
 --     TakesExactly-piece, TakesAtMost-piece, IsSuffix-piece
 --                      the first places of a buffer, behind what was taken before
-use Rattle.std.proofs.Common.{◌≡◌, ℕ, ◌+◌, ◌<◌, ◌≤◌, List, [], ◌++◌, length, take, Option, Some, None, IfSome, refl, sym, ap, ◌∙◌, subst, append_assoc, append-nil, length-append, length-take-le, arith}
+use Rattle.std.proofs.Common.{◌≡◌, ℕ, ◌+◌, ◌<◌, ◌≤◌, List, ◌++◌, length, take, Option, Some, None, IfSome, sym, ap, ◌∙◌, subst, append_assoc, length-append, length-take-le, arith}
 use Rattle.skein_io.specs.Source.{Takes, TakesExactly, TakesAtMost, IsSuffix}
-
-pub Takes-nothing : (left : Option (List ℕ)) → Takes left [] left
-Takes-nothing None = refl
-Takes-nothing (Some bytes) = (bytes, refl, refl)
 
 pub Takes-more : (a : Option (List ℕ)) (xs : List ℕ) (b : Option (List ℕ)) (ys : List ℕ) (c : Option (List ℕ))
     → Takes a xs b → Takes b ys c → Takes a (xs ++ ys) c
@@ -22,13 +16,6 @@ Takes-more (Some bytes) xs b ys c first second =
     let next = subst (λ (o : Option (List ℕ)). Takes o ys c) first.2 second in
     (next.0, first.1 ∙ ap (λ (z : List ℕ). xs ++ z) next.1 ∙ sym (append_assoc xs ys next.0), next.2)
 
-pub Takes-all : (a : Option (List ℕ)) (xs : List ℕ) (b : Option (List ℕ))
-    → Takes a xs b → IfSome b (λ left. left ≡ []) → IfSome a (λ left. xs ≡ left)
-Takes-all None xs b taken none_left = tt
-Takes-all (Some bytes) xs b taken none_left =
-    let none : taken.0 ≡ [] = subst (λ (o : Option (List ℕ)). IfSome o (λ left. left ≡ [])) taken.2 none_left in
-    sym (taken.1 ∙ ap (λ (z : List ℕ). xs ++ z) none ∙ append-nil xs)
-
 pub TakesExactly-told : (P : Type 0) (limit : ℕ) (a c : Option (List ℕ))
     → TakesExactly (limit + 1) a c → IfSome a (λ left. P → limit < length left)
 TakesExactly-told P limit None c takes = tt
@@ -36,6 +23,7 @@ TakesExactly-told P limit (Some left) c takes = λ _.
     let parts : length left ≡ length takes.0 + length takes.2.0 = ap length takes.2.1 ∙ length-append takes.0 takes.2.0 in
     omega (arith, parts, takes.1)
 
+-- THE FIRST PLACES OF A BUFFER, BEHIND WHAT WAS TAKEN BEFORE
 module _ (a b c : Option (List ℕ)) (xs buffer : List ℕ) (count : ℕ) (in_range : count ≤ length buffer)
     (before : Takes a xs b) (piece : Takes b (take count buffer) c) where
   length-piece : length (xs ++ take count buffer) ≡ length xs + count

@@ -148,7 +148,7 @@ module _ {V : Type 0} (fits : V → Type 0) (F : V → List (List ℕ)) (c : ℕ
     most = λ w more h. omega (arith, regrouped w more, m.most w ((c ∷ []) ∷ more) h);
   }
 
--- a whole input
+-- A WHOLE INPUT
 pub found_accepts : {A : Type 0} (fits : A → Type 0) (F : A → List (List ℕ)) (bytes : List ℕ) (v : A) (next : ℕ) → Found fits F bytes 0 v next → place bytes next [] ≡ suc (length bytes) → Accepts fits F bytes v
 found_accepts fits F bytes v next f e = record {
   fits_shape = f.fits_shape;

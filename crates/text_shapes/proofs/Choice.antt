@@ -101,7 +101,7 @@ module _ {V K A : Type 0} (argument : A → List (List ℕ)) (fits : K → A →
           }))
         ]
 
-    -- these are all the heads
+    -- WHERE NO HEAD STANDS, NO VALUE DOES
     pub all_missed : (hs : List (List ℕ)) (p : ℕ) → ((v : V) → OneOf hs (head v)) → Missed (Among head hs) tokens bytes at p → Missed fits_value tokens bytes at p
     all_missed hs p all m = record {
       within = m.within;

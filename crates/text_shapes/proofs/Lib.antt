@@ -21,4 +21,5 @@ pub mod Calling
 pub mod Readings
 pub mod Listing
 pub mod Choosing
+mod Signs
 mod Examples

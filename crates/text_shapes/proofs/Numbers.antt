@@ -68,7 +68,7 @@ no_longer bytes at n next s m fits c x y e r =
 number_apart : (m n : ℕ) → IsNumber m → IsNumber n → (m ≡ n → ⊥) → decimal m ≡ decimal n → ⊥
 number_apart m n h k ne e = ne (decimal_injective m n (small m h) (small n k) e)
 
--- behind white space
+-- THE LONGEST NUMBER IS FOUND
 pub number_found : (bytes : List ℕ) (at start n next : ℕ) → Skips bytes at start → LongestNumber bytes start n next → Found IsNumber number_tokens bytes at n next
 number_found bytes at start n next skip s =
     let word = decimal-word n s.fits in
@@ -106,6 +106,7 @@ no_number c w ts (b ∷ bs) high digit stop none =
     let ne : b ≡ c → ⊥ = λ e. elim (none (omega arith)) [ inl none_here ↦ (let bad : false ≡ true = sym none_here ∙ (ap is_digit e ∙ digit) in absurd cc) | inr is ↦ omega arith ] in
     rw (stop (omega arith), ne_eqb b c ne) refl
 
+-- WHERE NONE BEGINS, NONE IS
 pub number_missed : (bytes : List ℕ) (at start : ℕ) → Skips bytes at start → (start < length bytes → (is_digit (get_or bytes start 0) ≡ false) ⊎ (get_or bytes start 0 ≡ 48)) → Missed IsNumber number_tokens bytes at start
 number_missed bytes at start skip none = record {
   within = skip.within;

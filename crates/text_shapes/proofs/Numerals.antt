@@ -25,6 +25,7 @@ numeral_is ds n h =
     ] in
     (record { low = omega (arith, low, h.value); high = omega (arith, high, h.value) }, sym spelled ∙ ap decimal h.value)
 
+-- AND EACH NUMBER OF A TEXT IS SPELLED SO
 pub is_numeral : (n : ℕ) → IsNumber n → IsNumeral (decimal n) n
 is_numeral n h =
     let d = decimal_is_IsNumeral n (small n h) in

@@ -135,7 +135,7 @@ completes_on w ts b bs n (Some r) e le go =
     let c = go r e (le_of_suc-le-suc le') in
     (c.0, rw (reach-cons w ts b (take n bs ++ c.0), e) (suc-le-suc c.1))
 
--- what goes on so is the beginning of a whole text
+-- WHAT GOES ON SO IS THE BEGINNING OF A WHOLE TEXT
 pub reach_completes : (w : List ℕ) (ts : List (List ℕ)) (bs : List ℕ) (n : ℕ) → AreTokens ts → n ≤ length bs → n ≤ reach w ts bs → Completes w ts (take n bs)
 reach_completes w ts bs zero h within le = (w ++ joined ts, omega (arith, over_word w ts (joined ts), reach-joined ts h, length-append w (joined ts)))
 reach_completes w ts [] (suc n) h within le = absurd (omega arith)

@@ -6,15 +6,15 @@
 --     token_readable              a token before each value
 --     then_readable               a mark behind each value
 --     text_read                   all the bytes
---     read_exists, read_unique    a text, or a longest beginning; and of one value at the most
-use Rattle.std.proofs.Common.{inl, inr, ◌≡◌, ◌⊎◌, ℕ, false, List, [], ◌∷◌, ◌++◌, sym, ◌∙◌, arith}
+--     read_unique                 so they are a text of at most one value
+use Rattle.std.proofs.Common.{inl, inr, ◌≡◌, ℕ, false, List, [], ◌∷◌, ◌++◌, sym, ◌∙◌, arith}
 use Rattle.text_shapes.specs.Tokens.{is_space}
 use Rattle.text_shapes.specs.Reach.{AreTokens, IsToken, is_word_byte}
 use Rattle.text_shapes.specs.Readers.{IsReadable, LeadsTo, TextRead, ValueRead}
-use Rattle.text_shapes.specs.Shapes.{IsLongestBeginning, IsText}
+use Rattle.text_shapes.specs.Shapes.{IsText}
 use Rattle.text_shapes.proofs.Chain.{LeadsTo-found, LeadsTo-missed, found_accepts, found_refuses, missed_refuses, then_falls, then_found, then_missed, token_falls, token_stands}
 use Rattle.text_shapes.proofs.Scanning.{end_read, word_read}
-use Rattle.text_shapes.proofs.Whole.{accepted_only, accepted_text, refused_longest, refused_none}
+use Rattle.text_shapes.proofs.Whole.{accepted_only, refused_none}
 
 pub through : {A W : Type 0} (fits_a : A → Type 0) (F : A → List (List ℕ)) (fits_w : W → Type 0) (G : W → List (List ℕ)) (e : W → A) (bytes : List ℕ) (a b : ℕ)
     → LeadsTo fits_a F fits_w G e bytes a b → ValueRead fits_w G bytes b → ValueRead fits_a F bytes a
@@ -49,16 +49,8 @@ text_read fits tokens reads bytes =
       ]
     ]
 
--- EACH INPUT HAS EXACTLY ONE READING
+-- EACH INPUT IS A TEXT OF AT MOST ONE VALUE
 module _ {V : Type 0} (fits : V → Type 0) (tokens : V → List (List ℕ)) (good : (v : V) → fits v → AreTokens (tokens v)) (bytes : List ℕ) (read : TextRead fits tokens bytes) where
-  -- the bytes are a text, or they are none and there is a longest beginning
-  pub read_exists : ((v : V) × IsText fits tokens bytes v) ⊎ ((at : ℕ) × IsLongestBeginning fits tokens bytes at × ((v : V) → IsText fits tokens bytes v → ⊥))
-  read_exists = elim read [
-    | inl text ↦ inl (text.0, accepted_text fits tokens good bytes text.0 text.1)
-    | inr stop ↦ inr (stop.0, refused_longest fits tokens good bytes stop.0 stop.1, λ v text. refused_none fits tokens good bytes stop.0 v stop.1 text)
-  ]
-
-  -- they are a text of at most one value
   pub read_unique : (x y : V) → IsText fits tokens bytes x → IsText fits tokens bytes y → x ≡ y
   read_unique x y s t = elim read [
     | inl text ↦ accepted_only fits tokens good bytes text.0 x text.1 s ∙ sym (accepted_only fits tokens good bytes text.0 y text.1 t)

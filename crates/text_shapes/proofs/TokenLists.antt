@@ -1,5 +1,5 @@
 -- Calls and lists are of tokens where their parts are: so that a shape need not say so of its own.
-use Rattle.std.proofs.Common.{◌≡◌, ℕ, false, codes, List, [], ◌∷◌, ◌++◌, refl}
+use Rattle.std.proofs.Common.{◌≡◌, ℕ, false, codes, List, [], ◌∷◌, refl}
 use Rattle.std.specs.List.{AllByRecursion}
 use Rattle.text_shapes.specs.Tokens.{is_space}
 use Rattle.text_shapes.specs.Shapes.{arguments, items_behind, items_inside, listed}

@@ -29,6 +29,7 @@ module _ {V : Type 0} (fits : V → Type 0) (tokens : V → List (List ℕ)) (go
       let same : n ≤ reach [] (tokens b.1) bytes = subst (λ (xs : List ℕ). n ≤ reach [] (tokens b.1) xs) (take-append-drop n bytes) (omega (arith, here, len)) in
       omega (arith, same, r.most b.1 b.2.0)
 
+  -- A REFUSAL STANDS AT THE END OF THE LONGEST BEGINNING
   pub refused_longest : (p : ℕ) → Refuses fits tokens bytes p → IsLongestBeginning fits tokens bytes p
   refused_longest p r =
       let c = reach_completes [] (tokens r.furthest) bytes p (good r.furthest r.fits_shape) r.within (omega (arith, r.reached)) in

@@ -1,9 +1,9 @@
 -- Where a word stands, each other breaks off no later than it ends, unless it has the word in front and the
 -- byte behind it too. So no reader looks ahead: each alternative is tried, and the furthest place counts.
-use Rattle.std.proofs.Common.{inl, inr, ◌≡◌, ℕ, suc, ◌+◌, ◌≤◌, true, false, eqb, leb, ◌&&◌, List, [], ◌∷◌, ◌++◌, length, drop, None, refl, sym, ap, subst, ◌∙◌, arith, zero-le, suc-le-suc}
+use Rattle.std.proofs.Common.{inl, inr, ◌≡◌, ℕ, suc, ◌+◌, ◌≤◌, true, false, eqb, leb, ◌&&◌, List, [], ◌∷◌, ◌++◌, length, drop, refl, sym, ap, subst, ◌∙◌, arith, zero-le, suc-le-suc}
 use Rattle.std.specs.List.{AllByRecursion}
 use Rattle.std.proofs.lemmas.Bool.{eqb-true, ne_eqb, cases_Bool, or_cases, and_parts, leb-true}
-use Rattle.text_shapes.specs.Reach.{IsMarked, IsToken, IsWord, is_digit, is_letter, is_word_byte, place, reach, step}
+use Rattle.text_shapes.specs.Reach.{IsMarked, IsToken, IsWord, is_digit, is_letter, is_word_byte, place, reach}
 use Rattle.text_shapes.specs.Readers.{Stands}
 use Rattle.text_shapes.specs.Tokens.{is_space}
 use Rattle.text_shapes.proofs.ReachLemmas.{over_space, over_token, reach-cons}
@@ -30,9 +30,6 @@ unfolding is_space
 word_byte_no_space b h =
     let low = word_byte_low b h in
     rw (ne_eqb b 32 (λ e. omega (arith, low)), ne_eqb b 9 (λ e. omega (arith, low)), ne_eqb b 13 (λ e. omega (arith, low)), ne_eqb b 10 (λ e. omega (arith, low))) refl
-
-step_nothing : (w : List ℕ) (ts : List (List ℕ)) (b : ℕ) (bs : List ℕ) → step w ts b ≡ None → reach w ts (b ∷ bs) ≡ 0
-step_nothing w ts b bs e = reach-cons w ts b bs ∙ rw e refl
 
 -- where a mark comes next, or nothing, no letter and no digit goes on
 marked_ends : (ts : List (List ℕ)) (b : ℕ) (bs : List ℕ) → IsMarked ts → is_word_byte b ≡ true → reach [] ts (b ∷ bs) ≡ 0
@@ -78,7 +75,7 @@ place-stands bytes at t next ts token s =
     let one : reach [] (t ∷ ts) (drop at bytes) ≡ length s.space + (length t + reach [] ts (drop next bytes)) = ap (reach [] (t ∷ ts)) s.split ∙ over_space s.space (t ∷ ts) (t ++ drop next bytes) s.blank ∙ ap (λ n. length s.space + n) (over_token t ts (drop next bytes) token) in
     omega (arith, one, s.sum)
 
--- where a word stands, another goes no further
+-- WHERE A WORD STANDS, ANOTHER GOES NO FURTHER
 pub place-beaten : (bytes : List ℕ) (at : ℕ) (w other : List ℕ) (next : ℕ) (ts : List (List ℕ)) → Stands bytes at w next → IsWord w → IsWord other → IsMarked ts → (other ≡ w → ⊥)
     → ((c : ℕ) (x y : List ℕ) → other ≡ w ++ c ∷ x → drop next bytes ≡ c ∷ y → ⊥) → place bytes at (other ∷ ts) ≤ next
 place-beaten bytes at w other next ts s h o marked ne stop =
