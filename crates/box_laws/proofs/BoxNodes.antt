@@ -1,13 +1,11 @@
 -- A node with the terms of a formal sum on the ends of strands is a box.
-use Rattle.std.proofs.Common.{◌≡◌, ℕ, ◌+◌, ◌<◌, ◌≤◌, Bool, true, false, not, ◌==◌, ◌||◌, ◌&&◌, nat_lt, List, [], ◌∷◌, map, length, slice_index, zip, refl, sym, ap, ap₂, ◌∙◌, arith, All, Contains, subst, ⊎_elim}
+use Rattle.std.proofs.Common.{◌≡◌, ℕ, ◌+◌, ◌<◌, ◌≤◌, Bool, true, false, not, ◌==◌, ◌||◌, ◌&&◌, nat_lt, List, [], ◌∷◌, map, length, slice_index, refl, sym, ap, ap₂, ◌∙◌, arith, All, Contains, subst, ⊎_elim}
 use Rattle.std.specs.List.{range_with_len}
 use Rattle.std.specs.Set.{is_member}
 use Rattle.std.proofs.lemmas.Bool.{cases_Bool}
 use Rattle.std.proofs.lemmas.Bool.Decides.{nat_tests}
-use Rattle.std.proofs.lemmas.List.{length-map, get_or-map}
 use Rattle.std.proofs.lemmas.List.Elements.{All-map, All-cons, All-nil}
-use Rattle.std.proofs.lemmas.List.FromFn.{length-map-range_with_len, get_or-map-range_with_len, fill_by_all}
-use Rattle.std.proofs.lemmas.Slice.Zip.{length-zip, get_or-zip}
+use Rattle.std.proofs.lemmas.List.FromFn.{length-map-range_with_len}
 use Rattle.arc_gluing.specs.Pairings.{pair_edges}
 use Rattle.state_sums.specs.Networks.{Node, Term, IsNode, IsPairing}
 use Rattle.state_sums.specs.StateSums.{term_edges}
@@ -23,21 +21,7 @@ use Rattle.box_laws.specs.StrandBoxes.{is_boxed, place_of, point_at, mate_of, st
 use Rattle.box_laws.proofs.StrandBoxes.{strand_point, mate_point, mate_boxed, mate_stands, place_below, point_place, boxed_bounds, mate_of-IsMating}
 use Rattle.list_lemmas.proofs.Ranges.{All-range}
 use Rattle.strand_algebra.proofs.Contractions.{named}
-
-pub pair_edges-named : (name : ℕ → ℕ) (size : ℕ) (p : List ℕ) → IsPairingOf size p → pair_edges (map name (range_with_len 0 size)) p ≡ named name p
-pair_edges-named name size p h =
-    let names = map name (range_with_len 0 size) in
-    let partners = map (λ place. slice_index names place) p in
-    let s = h.length_is in
-    let l = length-map-range_with_len name 0 size in
-    let k = length-map p (λ place. slice_index names place) in
-    fill_by_all (λ i. (name i, name (slice_index p i))) (zip names partners) (length p) (0, 0) (length-zip names partners ∙ omega (arith, l, k, s))
-    (λ i b. let c : i < size = omega (arith, s, b) in
-    get_or-zip names partners i (0, 0) (omega (arith, l, c)) (omega (arith, k, b))
-    ∙ (λ t. (
-      get_or-map-range_with_len name 0 size i i 0 c (omega arith) t,
-      (get_or-map (λ place. slice_index names place) p i 0 0 b ∙ get_or-map-range_with_len name 0 size (slice_index p i) (slice_index p i) 0 (h.stays i c) (omega arith)) t,
-    )))
+use Rattle.strand_algebra.proofs.Gluings.{pair_edges-named}
 
 pub boxed_from : (c n u : ℕ) → c ≤ strand_of u → strand_of u < c + n → is_boxed c n u ≡ true
 boxed_from c n u a b = plain (strand_of u) c (c + n) a b

@@ -67,7 +67,7 @@ stacked_top : (n i : ℕ) → n ≤ i → stacked_name n (n + i) ≡ n + n + i
 stacked_top n i b = grind (arith, nat_tests)
 
 -- ---- the pairs by names
-pair_edges-named : (name : ℕ → ℕ) (size : ℕ) (p : List ℕ) → IsPairingOf size p → pair_edges (map name (range_with_len 0 size)) p ≡ named name p
+pub pair_edges-named : (name : ℕ → ℕ) (size : ℕ) (p : List ℕ) → IsPairingOf size p → pair_edges (map name (range_with_len 0 size)) p ≡ named name p
 pair_edges-named name size p h =
     let names = map name (range_with_len 0 size) in
     let partners = map (λ place. slice_index names place) p in
