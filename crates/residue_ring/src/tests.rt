@@ -5,11 +5,15 @@ use std::test::Fail;
 const TOP: u64 = (1 << 62) - 1;
 
 #[test]
-fn worked_rows(rt: HostRuntime) -> Result<(), Fail> {
+fn moduli(rt: HostRuntime) -> Result<(), Fail> {
     for m in [0, 1, 1 << 62, u64::MAX] {
         assert_eq!(rt; Ring::new(m), Err(OutOfRange), "modulus {m}");
     }
+    Ok(())
+}
 
+#[test]
+fn sums_and_products(rt: HostRuntime) -> Result<(), Fail> {
     // m, x, y, then the sum, the difference and the product
     for (m, x, y, sum, difference, product) in [
         (41, 6, 35, 0, 12, 5),
@@ -44,7 +48,11 @@ fn worked_rows(rt: HostRuntime) -> Result<(), Fail> {
         );
         assert_eq!(rt; ring.mul(x, y), product, "{x} {y} modulo {m}");
     }
+    Ok(())
+}
 
+#[test]
+fn powers(rt: HostRuntime) -> Result<(), Fail> {
     // m, x, e, then the power
     for (m, x, e, power) in [
         (41, 2, 19, 21),
@@ -61,7 +69,11 @@ fn worked_rows(rt: HostRuntime) -> Result<(), Fail> {
         assert!(rt; x < ring.modulus());
         assert_eq!(rt; ring.pow(x, e), power, "{x} to the {e} modulo {m}");
     }
+    Ok(())
+}
 
+#[test]
+fn inverses(rt: HostRuntime) -> Result<(), Fail> {
     // m, x, then the inverse or the common divisor
     for (m, x, inverse) in [
         (41, 2, Ok(21)),
@@ -79,7 +91,11 @@ fn worked_rows(rt: HostRuntime) -> Result<(), Fail> {
         assert!(rt; x < ring.modulus());
         assert_eq!(rt; ring.inverse(x), inverse, "the inverse of {x} modulo {m}");
     }
+    Ok(())
+}
 
+#[test]
+fn orders(rt: HostRuntime) -> Result<(), Fail> {
     // m, x, the greatest exponent, then the order
     for (m, x, at_most, order) in [
         (41, 2, 20, Some(20)),
