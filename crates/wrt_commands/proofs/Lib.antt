@@ -5,6 +5,7 @@ pub mod OutcomeLemmas
 pub mod StreamFaults
 pub mod RunLemmas
 pub mod UniqueOutcomes
+pub mod OutcomesExist
 pub mod Completeness
 pub mod OneResidue
 mod SweepExamples

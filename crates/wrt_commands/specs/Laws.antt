@@ -1,6 +1,7 @@
 -- Laws over the definitions alone.
 --
 --     OutcomesAreUnique         words and bytes come to at most one outcome
+--     OutcomesExist             and to one at least
 --     ReportsBeginWithBracket   whatever the order, the residue that a report tells is the bracket
 use Rattle.std.specs.Prelude.{◌≡◌, ℕ, List, Option}
 use Rattle.root_quantum.specs.Parameters.{Parameters}
@@ -13,6 +14,10 @@ use Rattle.wrt_commands.specs.Outcomes.{Outcome, done, diagram_outcome, IsOutcom
 -- words and bytes come to at most one outcome
 abbrev pub OutcomesAreUnique : Type 0
 OutcomesAreUnique = (words : List (List ℕ)) (bytes : List ℕ) (x y : Outcome) → IsOutcome words bytes x → IsOutcome words bytes y → x ≡ y
+
+-- words and bytes come to an outcome
+abbrev pub OutcomesExist : Type 0
+OutcomesExist = (words : List (List ℕ)) (bytes : List ℕ) → (outcome : Outcome) × IsOutcome words bytes outcome
 
 -- a report that a diagram comes to, in any order, is one of its bracket
 abbrev pub ReportsBeginWithBracket : Type 0

@@ -14,7 +14,7 @@ mod sweeping;
 mod tests;
 mod top;
 
-pub use laws::{outcomes_are_unique, reports_begin_with_bracket};
+pub use laws::{outcomes_are_unique, outcomes_exist, reports_begin_with_bracket};
 pub use parameters::{ParametersFault, read_parameters};
 pub use refusal::{Refusal, SweepStep};
 pub use status::Status;
