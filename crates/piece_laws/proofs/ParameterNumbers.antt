@@ -9,9 +9,7 @@ use Rattle.root_quantum.specs.QuantumNumbers.{inverse_root, loop_value, twist_fa
 use Rattle.root_quantum.proofs.LawProofs.{root_times_inverse, loop_value_law, twist_one_law, twist_congruent, twist_sum_law, twist_none_law}
 use Rattle.state_sums.specs.LocalSums.{AreSkeinNumbers}
 use Rattle.piece_laws.specs.Laws.{SkeinNumbersLaw}
-
-modulus_positive : (p : Parameters) → 0 < p.modulus
-modulus_positive p = omega (arith, p.meets.modulus.0)
+use Rattle.root_quantum.proofs.QuantumSteps.{modulus_positive}
 
 -- congruent natural numbers have one remainder
 pub to_naturals : {m : ℕ} (x y : ℕ) → 0 < m → Congruent m (pos x) (pos y) → x % m ≡ y % m

@@ -2,7 +2,7 @@
 use Rattle.std.proofs.Common.{◌≡◌, ℕ, zero, suc, ◌%◌, ◌<◌, pos, Option, refl, sym, ap, subst, ◌∙◌, arith, mod-lt}
 use Rattle.ring_identities.specs.Residues.{residue}
 use Rattle.ring_identities.specs.Powers.{power, IsUnity, IsOrder, IsOrderUpTo, order_up_to}
-use Rattle.ring_identities.specs.Laws.{ResidueInRange, ResidueCongruent, SameResidues, ResidueOfNatural, InverseUnique, PowerModOrder, UnityAtMultiples, OrderUpTo, SignedPowerSum}
+use Rattle.ring_identities.specs.Laws.{ResidueInRange, ResidueCongruent, SameResidues, ResidueOfNatural, InverseUnique, PowerModOrder, UnityAtMultiples, OrderUpToLimit, SignedPowerSum}
 use Rattle.ring_identities.proofs.Congruences.{residue_below, residue_congruent, residue_small, same_residue, congruent_of_residues}
 use Rattle.ring_identities.proofs.OrderSearch.{order_up_to-meets, order_up_to-unique}
 use Rattle.ring_identities.proofs.PowerLemmas.{power-mod}
@@ -42,7 +42,7 @@ unity_at_multiples m x t n many order =
     let same = power_mod_order m x t n positive order.unity in
     ((λ unity. rest_of_unity m x t (n % t) order (mod-lt n enough) (sym same ∙ unity)), (λ divides. same ∙ ap (λ k. residue m (power (pos x) k)) divides ∙ residue_small m 1 many))
 
-pub order_up_to_law : OrderUpTo
+pub order_up_to_law : OrderUpToLimit
 order_up_to_law m x limit found =
     let P : Option ℕ → Type 0 = IsOrderUpTo m x limit in
     let meets = order_up_to-meets m x limit in

@@ -7,7 +7,7 @@
 --     InverseUnique            a residue has one inverse
 --     PowerModOrder            where x^t = 1, exponents count modulo t
 --     UnityAtMultiples         where t is the order of x, x^n = 1 exactly where t divides n
---     OrderUpTo                the exponent found by trying each is the order, or there is none
+--     OrderUpToLimit           the exponent found by trying each is the order, or there is none
 --     SignedPowerSum           x^s x^t = x^(s+t) for whole s and t, where x has an inverse
 use Rattle.std.specs.Prelude.{◌≡◌, ℕ, ◌%◌, ◌<◌, ◌↔◌, ℤ, pos, ◌+ℤ◌, ◌*ℤ◌, Option}
 use Rattle.ring_identities.specs.Residues.{residue, Congruent}
@@ -35,8 +35,8 @@ PowerModOrder =
 abbrev pub UnityAtMultiples : Type 0
 UnityAtMultiples = (m x t n : ℕ) → 1 < m → IsOrder m x t → IsUnity m x n ↔ (n % t ≡ 0)
 
-abbrev pub OrderUpTo : Type 0
-OrderUpTo = (m x limit : ℕ) (found : Option ℕ) → IsOrderUpTo m x limit found ↔ (found ≡ order_up_to m x limit)
+abbrev pub OrderUpToLimit : Type 0
+OrderUpToLimit = (m x limit : ℕ) (found : Option ℕ) → IsOrderUpTo m x limit found ↔ (found ≡ order_up_to m x limit)
 
 abbrev pub SignedPowerSum : Type 0
 SignedPowerSum =

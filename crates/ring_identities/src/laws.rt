@@ -1,5 +1,5 @@
 // Laws over the definitions alone: functions with empty bodies, each with its theorem.
-ghost use Rattle.ring_identities.specs.Laws.{ResidueInRange, ResidueCongruent, SameResidues, ResidueOfNatural, InverseUnique, PowerModOrder, UnityAtMultiples, OrderUpTo, SignedPowerSum};
+ghost use Rattle.ring_identities.specs.Laws.{ResidueInRange, ResidueCongruent, SameResidues, ResidueOfNatural, InverseUnique, PowerModOrder, UnityAtMultiples, OrderUpToLimit, SignedPowerSum};
 
 /// Residues modulo m are below m.
 pub fn residue_in_range()
@@ -38,7 +38,7 @@ pub fn unity_at_multiples()
 
 /// Trying each exponent up to a limit finds the order where it is within it, and else nothing.
 pub fn order_up_to_limit()
-    ensures { OrderUpTo }
+    ensures { OrderUpToLimit }
 {}
 
 /// Exponents of either sign add up, where x has an inverse.

@@ -16,7 +16,7 @@ use Rattle.ring_identities.proofs.PowerLemmas.{sign_square}
 use Rattle.ring_identities.proofs.Unities.{unity_congruent}
 use Rattle.root_quantum.specs.Parameters.{Parameters}
 use Rattle.root_quantum.specs.QuantumNumbers.{inverse_root, loop_value, quantum_number, delta, twist_factor, twist}
-use Rattle.root_quantum.specs.Laws.{RootTimesInverse, LoopValue, DeltaFirst, DeltaNext, DeltaSquare, TwistNone, TwistOne, TwistSum}
+use Rattle.root_quantum.specs.Laws.{RootTimesInverse, LoopValueOfSquares, DeltaFirst, DeltaNext, DeltaSquare, TwistNone, TwistOne, TwistSum}
 use Rattle.root_quantum.proofs.QuantumSteps.{modulus_positive, whole_unity}
 
 pub root_times_inverse : RootTimesInverse
@@ -27,7 +27,7 @@ root_times_inverse p =
     let unity : Congruent p.modulus (pos p.root *ℤ last) (pos 1) = congruent_trans (congruent_eq (ap (power (pos p.root)) whole)) (unity_congruent (power (pos p.root) (4 * p.level)) (modulus_positive p) (whole_unity p)) in
     congruent_trans (congruent_times (congruent_refl p.modulus (pos p.root)) (congruent_sym (residue_congruent p.modulus last (modulus_positive p)))) unity
 
-pub loop_value_law : LoopValue
+pub loop_value_law : LoopValueOfSquares
 unfolding loop_value
 loop_value_law p = congruent_sym (residue_congruent p.modulus _ (modulus_positive p))
 

@@ -2,7 +2,7 @@
 -- ch. 13; Kauffman and Lins.)
 --
 --     RootTimesInverse         A A^-1 = 1
---     LoopValue                delta = -A^2 - A^-2
+--     LoopValueOfSquares       delta = -A^2 - A^-2
 --     DeltaFirst, DeltaNext    Delta_0 = 1, Delta_1 = delta, Delta_(n+2) = delta Delta_(n+1) - Delta_n
 --     DeltaSquare              Delta_(n+1)^2 - Delta_(n+2) Delta_n = 1
 --     TwistNone, TwistOne      mu_n^0 = 1, and mu_1 = -A^3
@@ -23,8 +23,8 @@ use Rattle.root_quantum.specs.QuantumNumbers.{inverse_root, loop_value, delta, t
 abbrev pub RootTimesInverse : Type 0
 RootTimesInverse = (p : Parameters) → Congruent p.modulus (pos p.root *ℤ pos (inverse_root p)) (pos 1)
 
-abbrev pub LoopValue : Type 0
-LoopValue =
+abbrev pub LoopValueOfSquares : Type 0
+LoopValueOfSquares =
     (p : Parameters) → Congruent p.modulus (pos (loop_value p)) (neg_ℤ (pos p.root *ℤ pos p.root) -ℤ pos (inverse_root p) *ℤ pos (inverse_root p))
 
 abbrev pub DeltaFirst : Type 0

@@ -1,5 +1,5 @@
 //! Laws over the definitions alone, for all parameters: functions with empty bodies, each with its theorem.
-ghost use Rattle.root_quantum.specs.Laws.{RootTimesInverse, LoopValue, DeltaFirst, DeltaNext, DeltaSquare, TwistNone, TwistOne, TwistSum, Accepted, Refused, EqualParameters, GreatestOfColours};
+ghost use Rattle.root_quantum.specs.Laws.{RootTimesInverse, LoopValueOfSquares, DeltaFirst, DeltaNext, DeltaSquare, TwistNone, TwistOne, TwistSum, Accepted, Refused, EqualParameters, GreatestOfColours};
 
 /// A times A^-1 is 1.
 pub fn root_times_inverse()
@@ -8,7 +8,7 @@ pub fn root_times_inverse()
 
 /// delta is minus the sum of the squares of A and of A^-1.
 pub fn loop_value_of_squares()
-    ensures { LoopValue }
+    ensures { LoopValueOfSquares }
 {}
 
 /// `Delta_0` is 1, and `Delta_1` is delta.

@@ -10,9 +10,7 @@ use Rattle.strand_algebra.specs.Projectors.{quantum_residue, wenzl_factor, next_
 use Rattle.strand_algebra.proofs.ProjectorLaws.{projector_element}
 use Rattle.temperley_lieb.specs.Elements.{Element, AreBelow, element_of}
 use Rattle.wenzl_table.specs.Projectors.{IsColourOf, IsProjectorOf}
-
-pub positive : (p : Parameters) → 0 < p.modulus
-positive p = let l = p.meets.modulus.0 in omega (arith, l)
+use Rattle.root_quantum.proofs.QuantumSteps.{modulus_positive}
 
 pub few_strands : (p : Parameters) (n : ℕ) → IsColourOf p n → n ≤ 8
 few_strands p n h = let t = h.top in omega (arith, t)
@@ -27,7 +25,7 @@ pub wenzl_factor_is : (p : Parameters) (k y d product result : ℕ) → d ≡ de
 wenzl_factor_is p k y d product result value product_is is =
     let m = p.modulus in
     is ∙ ap (λ z. residue m (neg_ℤ (pos z))) product_is
-    ∙ same_residue (positive p) (congruent_negative (congruent_sym (residue_congruent m (pos d *ℤ pos y) (positive p))))
+    ∙ same_residue (modulus_positive p) (congruent_negative (congruent_sym (residue_congruent m (pos d *ℤ pos y) (modulus_positive p))))
     ∙ ap (λ z. residue m (neg_ℤ (pos z *ℤ pos y))) (value ∙ delta_is p k)
 
 -- one step of the recursion
@@ -95,4 +93,4 @@ first_colour m d inverse = refl
 
 -- its coefficients are below m
 pub projector_below : (p : Parameters) (n : ℕ) (e : Element) → IsProjectorOf p n e → AreBelow p.modulus e
-projector_below p n e h = (projector_element p.modulus (loop_value p) n e.terms (positive p) h.terms).below
+projector_below p n e h = (projector_element p.modulus (loop_value p) n e.terms (modulus_positive p) h.terms).below
