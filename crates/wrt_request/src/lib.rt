@@ -4,7 +4,7 @@
 
 mod command;
 mod fault;
-pub mod laws;
+mod laws;
 mod list;
 mod number;
 mod option_name;
@@ -12,6 +12,7 @@ mod order;
 mod request;
 
 pub use fault::PartsFault;
+pub use laws::{lists_by_spelling, numbers_by_spelling};
 pub use list::NumberList;
 pub use number::decimal;
 pub use option_name::OptionName;
