@@ -1,0 +1,21 @@
+pub mod NameCounts
+pub mod GridNames
+pub mod PlaceNames
+pub mod CableNames
+pub mod InnerNames
+pub mod LabelNames
+pub mod NumberedStrands
+pub mod CableTwice
+pub mod CableIsNodes
+pub mod CableCounts
+pub mod SameCables
+pub mod RenamedCables
+pub mod PlainCables
+pub mod CableLaws
+pub mod ExchangedPlaces
+pub mod LoopValues
+pub mod AddedLoops
+pub mod ProjectorBoxes
+pub mod Groups
+pub mod NetCables
+mod Examples
