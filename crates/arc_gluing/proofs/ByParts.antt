@@ -1,4 +1,4 @@
--- Pairings by labels are pairings by walks and by parts.
+-- Pairings by labels are pairings by walks and by parts, since names have one label where a walk joins them.
 use Rattle.std.proofs.Common.{◌≡◌, ℕ, Bool, true, not, ◌&&◌, ◌==◌, List, sym, ap}
 use Rattle.std.specs.List.{AllPass, position_or_len}
 use Rattle.std.specs.Set.{is_member}

@@ -25,6 +25,7 @@ AllChoices-append (node ∷ front) back Q a =
     (AllChoices-weaker front (λ es. AllChoices back (λ fs. Q ((term_edges node term ++ es) ++ fs))) (λ es. AllChoices back (λ fs. Q (term_edges node term ++ (es ++ fs))))
     (λ es c. AllChoices-weaker back (λ fs. Q ((term_edges node term ++ es) ++ fs)) (λ fs. Q (term_edges node term ++ (es ++ fs))) (λ fs q. subst Q (append_assoc (term_edges node term) es fs) q) c) b)) node.terms a
 
+-- TOTALS THAT AGREE AT EACH CHOICE ARE ONE
 pub total_choices : (nodes : List Node) (Q : List (ℕ × ℕ) → Type 0) (f g : List (ℕ × ℕ) → ℕ) → AllChoices nodes Q → ((es : List (ℕ × ℕ)) → Q es → f es ≡ g es) → total nodes f ≡ total nodes g
 total_choices [] Q f g a h = h [] a
 total_choices (node ∷ nodes) Q f g a h =

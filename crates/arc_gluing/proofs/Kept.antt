@@ -43,7 +43,7 @@ kept_after l (f ∷ es) m h k u v e =
     kept_after l es (relabel m f)
     (λ w z t. let a = h w z in let b = h w f.0 in let c = h z f.0 in let d = h w f.1 in let g = h z f.1 in let s = k.0 in grind (arith, nat_tests, a, b, c, d, g, s, t)) k.1 u v e
 
--- what keeps the edges tells apart no names that they join
+-- WHAT KEEPS THE EDGES TELLS APART NO NAMES THAT THEY JOIN
 pub kept : (l : ℕ → ℕ) (es : List (ℕ × ℕ)) → Keeps l es → (u v : ℕ) → label_of es u ≡ label_of es v → l u ≡ l v
 kept l es k u v e = kept_after l es (λ x. x) (λ w z t. ap l t) k u v e
 
@@ -86,6 +86,7 @@ module _ (l : ℕ → ℕ) (names partner : List ℕ) where
       (cases_Bool (i == n))
 
   module _ (h : IsPairing partner) (same : length partner ≡ length names) where
+    -- THE PAIRS OF A PAIRING, EACH ONCE OR TWICE
     pub Keeps-both : Keeps l (pairs_below names partner (length partner)) → Keeps l (pair_edges names partner)
     Keeps-both k =
         Keeps-zip l (slice_index names) names partner (λ i p q.

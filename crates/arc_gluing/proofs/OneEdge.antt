@@ -200,6 +200,7 @@ module _ (a b : ℕ) (times left mate label : ℕ → ℕ) (split : (x : ℕ) �
           (λ t u. h.only x y (has x p) (has y q) (sym (lab_other x p r s) ∙ e ∙ lab_other y q t u) d ∙ sym (at_other x r s)));
     }
 
+  -- ONE EDGE MORE
   pub IsMated-joined : IsMated left (joined_mates mate (a, b)) (relabel label (a, b))
   IsMated-joined =
       ⊎_elim

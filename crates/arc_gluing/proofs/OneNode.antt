@@ -1,4 +1,5 @@
--- One node more behind a choice of terms: the pairing and the closed parts after it, by labels.
+-- One node more behind a choice of terms: the pairing and the closed parts after it, by labels. The pairing so far stands in for
+-- the edges of the choice, so that only its pairs and the term's are joined.
 use Rattle.std.proofs.Common.{◌≡◌, ℕ, ◌+◌, ◌≤◌, true, ◌==◌, List, ◌++◌, map, length, slice_index, sym, subst, arith}
 use Rattle.std.specs.Set.{is_member}
 use Rattle.std.specs.List.{AllPass}
@@ -92,6 +93,7 @@ module _ (names ends inner outer : List ℕ) (few : (x : ℕ) → times_in names
     pub label_closed-more : label_closed (es ++ pair_edges ends term) (names ++ ends) outer ≡ label_closed es names inner + label_closed short (inner ++ ends) outer
     label_closed-more = label_closed-pairing names ends inner outer (label_partners es inner) es (pair_edges ends term) choice.inside term_inside has meets left choice.paired
 
+    -- THE CHOICE WITH ONE TERM MORE
     pub next_choice : IsChoice (names ++ ends) outer (es ++ pair_edges ends term)
     next_choice = record {
       inside = EndsAre-append (is_member ◌==◌ (names ++ ends)) es (pair_edges ends term)

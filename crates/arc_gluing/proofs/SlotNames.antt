@@ -1,4 +1,5 @@
--- Slots in the place of names: a pairing of slots is one of their names, and as many parts are closed.
+-- Slots in the place of names: a pairing of slots is one of their names, and as many parts are closed, since slots are renamed
+-- one to one.
 use Rattle.std.proofs.Common.{◌≡◌, ℕ, ◌<◌, true, ◌==◌, List, map, length, slice_index, zip, sym, ap, ◌∙◌, arith}
 use Rattle.std.specs.Set.{is_member}
 use Rattle.std.specs.List.{AllPass, All}
@@ -31,6 +32,7 @@ module _ (r : ℕ → ℕ) (all : List ℕ) (es : List (ℕ × ℕ)) (one : IsOn
     at : (i : ℕ) → i < length (map r left) → slice_index (map r left) i ≡ r (slice_index left i)
     at i l = get_or-map r left i 0 0 (let k = length-map left r in omega (arith, k, l))
 
+    -- THE PAIRING OF THE NAMES
     pub IsPairedLabels-named : IsPairedLabels (map (renamed r) es) (map r left) partner
     IsPairedLabels-named = record {
       whole = let k = length-map left r in let w = h.whole in omega (arith, k, w);
@@ -46,6 +48,7 @@ module _ (r : ℕ → ℕ) (all : List ℕ) (es : List (ℕ × ℕ)) (one : IsOn
           h.only i j il jl (to_slots _ _ (among i il) (among j jl) (sym (ap (label_of (map (renamed r) es)) (at i p)) ∙ e ∙ ap (label_of (map (renamed r) es)) (at j q))) d;
     }
 
+  -- AS MANY CLOSED PARTS
   pub label_closed-named : (left : List ℕ) → AllPass (is_member ◌==◌ all) left → label_closed (map (renamed r) es) (map r all) (map r left) ≡ label_closed es all left
   label_closed-named left a =
       let m = label_count-map r es all in

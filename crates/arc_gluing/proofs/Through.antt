@@ -2,7 +2,7 @@
 use Rattle.std.proofs.Common.{◌≡◌, ℕ, ◌+◌, ◌<◌, Bool, true, ◌==◌, ⊎_elim, List, ◌++◌, length, slice_index, zip, sym, ap, ◌∙◌, arith}
 use Rattle.std.specs.Set.{is_member}
 use Rattle.std.specs.List.{AllPass}
-use Rattle.std.proofs.lemmas.Bool.{eq-eqb, eqb-true, or_left, cases_Bool}
+use Rattle.std.proofs.lemmas.Bool.{eq-eqb, eqb-true, cases_Bool}
 use Rattle.std.proofs.lemmas.List.Elements.{All-weaker}
 use Rattle.arc_gluing.proofs.Kept.{Keeps, Keeps-own, Keeps-zip, zip-Keeps, kept}
 use Rattle.arc_gluing.proofs.OneEdge.{same_or_not}
@@ -13,7 +13,6 @@ use Rattle.graph_parts.proofs.Counting.{label_after-append, Agree-after}
 use Rattle.graph_parts.proofs.Distinct.{is_member-append}
 use Rattle.graph_parts.proofs.Ends.{EndsAre-weaker, is_member-itself, is_member-get_or}
 use Rattle.graph_parts.proofs.Gluing.{label_closed-glue}
-use Rattle.graph_parts.proofs.Renaming.{first_like-agree, map_agree_on}
 use Rattle.graph_parts.proofs.Through.{is_outer, alone, Agree-pattern}
 use Rattle.graph_parts.specs.Ends.{EndsAre}
 use Rattle.graph_parts.specs.Labels.{label_of, Agree}
@@ -108,43 +107,9 @@ module _ (names others inner outer partner : List ℕ) (es fs : List (ℕ × ℕ
         only = λ i j pi pj e d. k.only i j pi pj (eqb-true _ _ (sym (agree _ _ (passes i pi) (passes j pj)) ∙ eq-eqb _ _ e)) d;
       }
 
--- ---- pairings and patterns determine each other
-module _ (names partner : List ℕ) (es fs : List (ℕ × ℕ)) (h : IsPairedLabels es names partner) (k : IsPairedLabels fs names partner) where
-  same_way : (i j : ℕ) → i < length names → j < length names → label_of es (slice_index names i) ≡ label_of es (slice_index names j) → label_of fs (slice_index names i) ≡ label_of fs (slice_index names j)
-  same_way i j p q e =
-      same_or_not j i (λ t. ap (λ n. label_of fs (slice_index names n)) (sym t))
-      (λ d. sym (ap (λ n. label_of fs (slice_index names n)) (h.only i j p q e d) ∙ k.joined i p))
-
-module _ (names : List ℕ) (es fs : List (ℕ × ℕ)) where
-  pub pattern-from_pairing : (partner : List ℕ) → IsPairedLabels es names partner → IsPairedLabels fs names partner → label_pattern es names ≡ label_pattern fs names
-  pattern-from_pairing partner h k =
-      let agree : Agree (is_member ◌==◌ names) (label_of es) (label_of fs) = λ u v p q.
-      let mu = member_at names u p in let mv = member_at names v q in
-      eqb_from_iff (label_of es u) (label_of es v) (label_of fs u) (label_of fs v)
-      (λ e. ap (label_of fs) (sym mu.2) ∙ same_way names partner es fs h k mu.0 mv.0 mu.1 mv.1 (ap (label_of es) mu.2 ∙ e ∙ sym (ap (label_of es) mv.2)) ∙ ap (label_of fs) mv.2)
-      (λ e. ap (label_of es) (sym mu.2) ∙ same_way names partner fs es k h mu.0 mv.0 mu.1 mv.1 (ap (label_of fs) mu.2 ∙ e ∙ sym (ap (label_of fs) mv.2)) ∙ ap (label_of es) mv.2) in
-      map_agree_on (is_member ◌==◌ names) _ _ names (is_member-itself names)
-      (λ x m. first_like-agree (is_member ◌==◌ names) (label_of es) (label_of fs) names x agree m (is_member-itself names))
-
--- one pairing at most belongs to the parts
+-- ONE PAIRING AT MOST BELONGS TO THE PARTS
 pub one_pairing : (names p q : List ℕ) (es : List (ℕ × ℕ)) → IsPairedLabels es names p → IsPairedLabels es names q → p ≡ q
 one_pairing names p q es h k =
     same_items p q (let a = h.whole in let b = k.whole in omega (arith, a, b))
     (λ i l. let a = h.whole in let il : i < length names = omega (arith, a, l) in let w = h.is_pairing.within i l in
     k.only i (slice_index p i) il (omega (arith, a, w)) (sym (h.joined i il)) (h.is_pairing.apart i l))
-
--- a pattern of the open names tells the pairing
-pub pairing-from_pattern : (all names p q : List ℕ) (es fs : List (ℕ × ℕ)) → EndsAre (is_member ◌==◌ all) es → EndsAre (is_member ◌==◌ all) fs →
-    IsPairedLabels es names p → IsPairedLabels fs names q → label_pattern es names ≡ label_pattern fs names → p ≡ q
-pairing-from_pattern all names p q es fs he hf h k same =
-    let a = Agree-pattern all names es he in
-    let b = Agree-pattern all names fs hf in
-    let open_ : (i : ℕ) → i < length names → is_outer all names (slice_index names i) ≡ true = λ i l. or_left (is_member ◌==◌ names (slice_index names i)) _ (is_member-get_or names i l) in
-    let tells : (i j : ℕ) → i < length names → j < length names → label_of es (slice_index names i) ≡ label_of es (slice_index names j) → label_of fs (slice_index names i) ≡ label_of fs (slice_index names j) =
-    λ i j il jl e. eqb-true _ _ (b (slice_index names i) (slice_index names j) (open_ i il) (open_ j jl)
-    ∙ ap (λ pattern. label_of (zip names pattern) (slice_index names i) == label_of (zip names pattern) (slice_index names j)) (sym same)
-    ∙ sym (a (slice_index names i) (slice_index names j) (open_ i il) (open_ j jl)) ∙ eq-eqb _ _ e) in
-    same_items p q (let x = h.whole in let y = k.whole in omega (arith, x, y))
-    (λ i l. let x = h.whole in let il : i < length names = omega (arith, x, l) in
-    let jl : slice_index p i < length names = (let w = h.is_pairing.within i l in omega (arith, x, w)) in
-    k.only i (slice_index p i) il jl (tells i (slice_index p i) il jl (sym (h.joined i il))) (h.is_pairing.apart i l))

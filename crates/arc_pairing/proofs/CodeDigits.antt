@@ -1,4 +1,5 @@
--- Codes: digits to base 32, and what a code tells of its pairing.
+-- Codes: digits to base 32, and what a code tells of its pairing. Each digit is below 32, so the digits are the remainders that
+-- are taken off one by one, and pairings of one code have one list of digits.
 use Rattle.std.proofs.Common.{◌≡◌, ℕ, zero, suc, ◌+◌, ◌-◌, ◌*◌, ◌/◌, ◌%◌, ◌^◌, ◌≤◌, ◌<◌, List, [], ◌∷◌, take, drop, slice_set, ◌++◌, length, slice_index, refl, sym, ap, ◌∙◌, arith, add-one, length-drop}
 use Rattle.arc_pairing.specs.Codes.{code_of, digits_of, OneCodeLaw}
 use Rattle.std.proofs.lemmas.List.{take_more_set, length-take-le}
@@ -7,9 +8,6 @@ use Rattle.arc_pairing.specs.Pairings.{IsShortPairing}
 abbrev cap : ℕ → ℕ
 cap zero = 1
 cap (suc n) = 32 * cap n
-
-cap_more : (n : ℕ) → cap n ≤ cap (suc n)
-cap_more n = omega arith
 
 cap_le : (n k : ℕ) → cap n ≤ cap (n + k)
 cap_le n zero = let e : n + 0 ≡ n = omega arith in let c = ap cap e in omega (arith, c)
@@ -114,6 +112,7 @@ same_digits (x ∷ xs) (y ∷ ys) e h k d =
     let ih = same_digits xs ys (omega arith) (λ i l. h (suc i) (omega arith)) (λ i l. k (suc i) (omega arith)) rest in
     cc
 
+-- PAIRINGS OF ONE CODE ARE ONE
 pub same_code : OneCodeLaw
 same_code p q hp hq e =
     let a = code_parts p (code_of p) hp refl in

@@ -1,4 +1,5 @@
--- What `glue` knows when it returns: the mates of the slots that are left tell the partners by parts.
+-- What `glue` knows when it returns: the mates of the slots that are left tell the partners by parts. Each fact is one on slots of
+-- the gluing, read at the lists that the calls gave.
 use Rattle.std.proofs.Common.{◌≡◌, ℕ, ◌≤◌, ◌<◌, List, ◌++◌, map, length, slice_index, sym, ap, subst, ◌∙◌, ⊎_elim, arith}
 use Rattle.std.proofs.lemmas.Bool.{cases_lt}
 use Rattle.graph_parts.specs.Patterns.{closed_parts}
@@ -51,6 +52,7 @@ module _ (inner ends outer end_slots outer_slots places : List ℕ) (h : IsSeam 
     found_are : (found : List ℕ) → found ≡ map (λ x. slice_index places (slice_index m2 x)) ls → found ≡ map (λ x. slice_index places (mates_after (slice_index m1) (pairs_below end_slots term (length term)) x)) outer_slots
     found_are found is = is ∙ ap (map (λ x. slice_index places (slice_index m2 x))) ls_are ∙ ap (λ m. map (λ x. slice_index places (m x)) outer_slots) same_mates
 
+    -- THE PARTNERS FOUND ARE THE PAIRING
     pub end_paired : (found : List ℕ) → found ≡ map (λ x. slice_index places (slice_index m2 x)) ls → IsPairedBy (glued_edges seam old term) seam.outer found
     end_paired found is =
         let P : Seam → Type 0 = λ s. IsPairedBy (glued_edges s old term) s.outer found in
@@ -63,6 +65,7 @@ module _ (inner ends outer end_slots outer_slots places : List ℕ) (h : IsSeam 
         ∙ partners_are inner ends outer end_slots outer_slots places old term h po.paired pt.paired lo2 lt2 (slice_index m1) old_at new_at
         ∙ ap (λ s. partners_of (s.inner ++ s.ends) (glued_edges s old term) s.outer) view
 
+    -- THE LOOPS FOUND ARE THE CLOSED PARTS
     pub end_loops : (count : ℕ) → count ≡ loops_after (slice_index m1) (pairs_below es pairs (length pairs)) → count ≡ closed_parts (seam.inner ++ seam.ends) (glued_edges seam old term) seam.outer
     end_loops count is =
         is ∙ ap (loops_after (slice_index m1)) joins
@@ -77,6 +80,7 @@ module _ (inner ends outer end_slots outer_slots places : List ℕ) (h : IsSeam 
         (λ (l : length outer_slots ≤ i). let e = get_past outer_slots i l in omega (arith, at, e))
         (cases_lt i (length outer_slots))
 
+    -- AND THE PAIRING IS A SHORT ONE
     pub end_short : (found : List ℕ) → found ≡ map (λ x. slice_index places (slice_index m2 x)) ls → IsShortPairing found
     end_short found is =
         let p = end_paired found is in

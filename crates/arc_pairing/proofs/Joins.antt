@@ -30,9 +30,6 @@ small_set (m ∷ ms) (suc u) v zero l k = k
 small_set (m ∷ ms) (suc u) v (suc x) l k = small_set ms u v x l k
 
 module _ (m : ℕ → ℕ) (es : List (ℕ × ℕ)) (ms : List ℕ) (whole : length ms ≡ 48) (now : (x : ℕ) → slice_index ms x ≡ mates_after m es x) (small : (x : ℕ) → slice_index ms x < 48) (a b : ℕ) where
-  cur : ℕ → ℕ
-  cur = mates_after m es
-
   pub after_closed : slice_index ms a ≡ b → (x : ℕ) → slice_index ms x ≡ mates_after m (es ++ (a, b) ∷ []) x
   after_closed e x =
       let k = ap (λ f. f x) (mates_after-append m es ((a, b) ∷ [])) in let n = now x in let na = now a in grind (arith, nat_tests, k, n, na, e)
@@ -78,6 +75,7 @@ module _ (start : ℕ → ℕ) (slots partner mates : List ℕ) (loops i a b : �
   pairs_now : i < slice_index partner i → pairs_below slots partner (i + 1) ≡ pairs_below slots partner i ++ (a, b) ∷ []
   pairs_now l = pairs_taken slots partner i l ∙ (let p = is_a in let q = is_b in cc)
 
+  -- A LOOP CLOSES
   pub IsAt-closed : i < slice_index partner i → slice_index mates a ≡ b → IsAt start slots partner mates (loops + 1) (i + 1)
   IsAt-closed l e =
       let es = pairs_below slots partner i in
@@ -88,6 +86,7 @@ module _ (start : ℕ → ℕ) (slots partner mates : List ℕ) (loops i a b : �
         few = let f = h.few in omega (arith, f);
       }
 
+  -- TWO MATES ARE MADE
   pub IsAt-open : i < slice_index partner i → slice_index mates a ≢ b →
       IsAt start slots partner (set (set mates (slice_index mates a) (slice_index mates b)) (slice_index mates b) (slice_index mates a)) loops (i + 1)
   IsAt-open l d =
@@ -100,6 +99,7 @@ module _ (start : ℕ → ℕ) (slots partner mates : List ℕ) (loops i a b : �
         few = let f = h.few in omega (arith, f);
       }
 
+-- A PAIR THAT WAS JOINED IS PASSED OVER
 pub IsAt-skipped : (start : ℕ → ℕ) (slots partner mates : List ℕ) (loops i : ℕ) → IsAt start slots partner mates loops i → slice_index partner i ≤ i → IsAt start slots partner mates loops (i + 1)
 IsAt-skipped start slots partner mates loops i h l =
     record {

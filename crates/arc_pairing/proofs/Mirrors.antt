@@ -1,4 +1,4 @@
--- The mirror image of a pairing is a pairing.
+-- The mirror image of a pairing is a pairing: points are counted from the other end, and to do so twice changes nothing.
 use Rattle.std.proofs.Common.{◌≡◌, ◌≢◌, ℕ, ◌-◌, ◌<◌, ◌≤◌, List, length, reverse, slice_index, take, ap, ◌∙◌, arith}
 use Rattle.std.proofs.lemmas.List.{get_or-map, length-map, get_or-reverse, length-reverse, take_all}
 use Rattle.state_sums.specs.Networks.{IsPairing}
@@ -39,6 +39,7 @@ module _ (p : List ℕ) where
         let f = at (slice_index (mirrored p) i) within in
         omega (arith, f, again, l)
 
+  -- THE MIRROR IMAGE IS A PAIRING
   pub IsShortPairing-mirrored : IsShortPairing p → IsShortPairing (mirrored p)
   IsShortPairing-mirrored h = record {
     short = let e = long in let s = h.short in omega (arith, e, s);

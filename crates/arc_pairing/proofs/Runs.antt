@@ -3,7 +3,7 @@
 --
 --     IsScanned names start          what is known where a run begins
 --     IsRun names start end name     what is known inside it
---     run_begins, run_goes_on, run_times, scanned_on, scanned_all
+--     run_begins, run_times, scanned_on
 use Rattle.std.proofs.Common.{◌≡◌, ◌≢◌, ℕ, zero, suc, ◌+◌, ◌<◌, ◌≤◌, ◌==◌, true, cond, List, [], ◌∷◌, length, take, drop, get_or, refl, sym, ap, ◌∙◌, arith, length-drop, ⊎_elim}
 use Rattle.std.proofs.lemmas.Bool.{cases_lt, cases_order}
 use Rattle.std.proofs.lemmas.Bool.Decides.{nat_tests}
@@ -70,17 +70,6 @@ module _ (names : List ℕ) (ascending : IsNonDecreasing names) where
         count = grind (arith, nat_tests, none, more);
       }
 
-  pub run_goes_on : (start end name : ℕ) → IsRun names start end name → end < length names → get_or names end 0 ≡ name → IsRun names start (end + 1) name
-  run_goes_on start end name r l e =
-      let c = r.count in
-      let more = times_in-more names name end l in
-      record {
-        within = omega arith;
-        some = (let k = r.some in omega (arith, k));
-        equal = λ j a b. ⊎_elim (λ (k : j < end). r.equal j a k) (λ (k : end ≤ j). let same : j ≡ end = omega (arith, k, b) in ap (λ i. get_or names i 0) same ∙ e) (cases_lt j end);
-        count = grind (arith, nat_tests, c, more, e);
-      }
-
   -- past a run stands no name of it
   past_run : (start end name : ℕ) → IsRun names start end name → (end < length names → get_or names end 0 ≢ name) → (j : ℕ) → end ≤ j → j < length names → name < get_or names j 0
   past_run start end name r other j k l =
@@ -107,6 +96,7 @@ module _ (names : List ℕ) (ascending : IsNonDecreasing names) where
       (λ (inside : start ≤ j). let a = r.equal j inside front in omega (arith, a, e, gt))
       (cases_lt j start)
 
+  -- PAST A RUN OF TWO THE SCAN GOES ON
   pub scanned_on : (start end : ℕ) → IsScanned names start → start < length names → IsRun names start end (get_or names start 0) → (end < length names → get_or names end 0 ≢ get_or names start 0) → end ≡ start + 2 → IsScanned names end
   scanned_on start end s l r other two =
       let name : ℕ = get_or names start 0 in
@@ -129,7 +119,3 @@ module _ (names : List ℕ) (ascending : IsNonDecreasing names) where
             times_in-none (take end names) x (λ j l e. let n = length-take-le end names r.within in let front : j < end = omega (arith, n, l) in
             up_to start end r j front x (omega (arith, past, le)) (sym (get_or-take end names j 0 front) ∙ e));
       }
-
-  -- where the scan has come to the end, every name stands twice
-  pub scanned_all : (start : ℕ) → IsScanned names start → length names ≤ start → (x : ℕ) → StandsTwice names x
-  scanned_all start s l x = s.done x (λ k. absurd (omega (arith, k, l)))

@@ -36,6 +36,7 @@ none_passes test i (x ∷ xs) h =
       | false ↦ λ e k. All-cons (λ x. test x ≡ false) x xs e (none_passes test (i + 1) xs k)
     ] refl h
 
+-- WHERE NO TERM IS A MISFIT, ALL FIT
 pub none_misfits : (ends : ℕ) (terms : List Term) → first_misfit ends terms ≡ None → All (λ term. length term.partner ≡ ends) terms
 none_misfits ends terms h i d l =
     let test : Term → Bool = λ term. not (length term.partner == ends) in

@@ -94,6 +94,7 @@ module _ (c n : ℕ) (name : ℕ → ℕ) where
           ((IsPairingOn-from_points n term.partner a.0).is_pairing, a.0.length_is ∙ sym size) (every node size f a.1)
 
   -- ---- the names
+  -- THE NAMES THAT A TERM JOINS
   pub boxed_names : (points : List ℕ) (q : List ℕ) → IsPairingOf (n + n) q → AreNamedBeside c n name →
       ((u : ℕ) → is_member ◌==◌ points u ≡ true → strand_of u < c + n) → ((u : ℕ) → strand_of u < c + n → c ≤ strand_of u → is_member ◌==◌ points u ≡ true) →
       ((u : ℕ) → is_member ◌==◌ points u ≡ true → is_member ◌==◌ points (standing u) ≡ true) → AreBoxed inner points name (mate_of c n q)

@@ -1,4 +1,4 @@
--- The loops of a closed pairing, by closing its strands one by one; and the value of a closed network of steps.
+-- Strands that are closed: arcs have one state, whose edges join the two names of each strand; and a sum with no open name.
 use Rattle.std.proofs.Common.{◌≡◌, ◌≢◌, ℕ, zero, suc, ◌+◌, ◌-◌, ◌*◌, ◌^◌, ◌<◌, ◌≤◌, true, ◌==◌, List, [], ◌∷◌, refl, sym, ap, ap₂, ◌∙◌, arith, Contains, ⊎_elim, ◌⊎◌, inl, inr}
 use Rattle.std.specs.Set.{is_member}
 use Rattle.std.proofs.lemmas.Bool.{or_cases, eqb-true, cases_eq}
@@ -10,7 +10,7 @@ use Rattle.state_sums.proofs.Sums.{total}
 use Rattle.strand_words.specs.Boxes.{bottom}
 use Rattle.strand_words.specs.Words.{top}
 use Rattle.word_networks.specs.PlacedGrids.{close_steps}
-use Rattle.word_networks.specs.Steps.{names_after, step_nodes}
+use Rattle.word_networks.specs.Steps.{step_nodes}
 use Rattle.list_lemmas.proofs.Sums.{sum_by_same}
 
 -- a sum with no open name
@@ -23,17 +23,12 @@ sum_of_closed delta network =
     closed_plain : (w d k free : ℕ) → w * d ^ (k + free) ≡ w * (d ^ (k - 0 + free) * 1)
     closed_plain w d k free = (let e : k ≡ k - 0 = omega arith in ap (λ n. w * d ^ (n + free)) e) ∙ (let p = d ^ (k - 0 + free) in let t : w * p ≡ w * (p * 1) = omega arith in t)
 
--- names stay where strands are closed
-pub names_closed : (name : ℕ → ℕ) (i count : ℕ) → names_after name (close_steps i count) ≡ name
-names_closed name i zero = refl
-names_closed name i (suc count) = names_closed name (i + 1) count
-
 module _ (name : ℕ → ℕ) where
   abbrev pub arc_edges : ℕ → ℕ → List (ℕ × ℕ)
   arc_edges i zero = []
   arc_edges i (suc count) = (name (top i), name (bottom i)) ∷ (name (bottom i), name (top i)) ∷ arc_edges (i + 1) count
 
-  -- arcs have one state
+  -- ARCS HAVE ONE STATE
   pub arcs_total : (i count : ℕ) (f : List (ℕ × ℕ) → ℕ) → total (step_nodes name (close_steps i count)) f ≡ f (arc_edges i count)
   arcs_total i zero f = refl
   arcs_total i (suc count) f =
@@ -54,6 +49,7 @@ module _ (name : ℕ → ℕ) where
       (λ (d : i ≢ k). (let r = has_arc (i + 1) count k (omega (arith, lo, d)) (omega (arith, hi)) in (suc (suc r.0), (let l = r.1 in omega (arith, l)), r.2)))
       (cases_eq i k)
 
+  -- THE NAMES OF ARCS ARE THOSE OF THE STRANDS
   pub arc_names : (i count z : ℕ) → is_member ◌==◌ (names_of (step_nodes name (close_steps i count))) z ≡ true → (k : ℕ) × (i ≤ k) × (k < i + count) × ((z ≡ name (top k)) ⊎ (z ≡ name (bottom k)))
   arc_names i zero z m = absurd (grind (arith, m))
   arc_names i (suc count) z m =

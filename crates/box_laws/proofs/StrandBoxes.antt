@@ -191,7 +191,7 @@ module _ (c n i : ℕ) (q : List ℕ) (hq : IsPairingOf (n + n) q) (b : i + 1 < 
           kept_plain : (mate : ℕ → ℕ) (u p r : ℕ) → u ≢ p → u ≢ r → u ≢ mate p → u ≢ mate r → hooked p r mate u ≡ mate u
           kept_plain mate u p r d e f g = grind (arith, nat_tests, d, e, f, g)
 
-  -- and the tops are mates just where they are partners
+  -- THE TOPS ARE MATES JUST WHERE THEY ARE PARTNERS
   pub tops_told : (M (top (c + i)) == top (c + i + 1)) ≡ (Q X == Y)
   tops_told =
       let lx = x_below n i q hq b in let ly = y_below n i q hq b in

@@ -141,6 +141,7 @@ mate_of-straight n =
         ∙ ap top (let z : 0 + (n + n - 1 - (n + n - 1 - (s - 0))) ≡ s = omega (arith, l) in z)
         ∙ sym (ap (λ b. cond b (top s) (bottom s)) t))
 
+-- THE IDENTITY IS THE STANDING STRANDS
 pub identity_sum : (m n : ℕ) → 0 < m → (worth : (ℕ → ℕ) → ℕ) → box_sum (strand_box 0 n (identity m n)) worth % m ≡ worth standing % m
 unfolding residue
 identity_sum m n some worth =

@@ -71,6 +71,6 @@ module _ (next : View → ℕ) (network : Network) where
         ∙ ap (λ front. front ++ next (view_after network front) ∷ []) before
         ∙ sym (order_by_more k)
 
-    -- No other order is.
+    -- NO OTHER ORDER IS CHOSEN BY IT
     pub IsChosen-only : order ≡ order_by next network (length order)
     IsChosen-only = sym (take_all (length order) order (omega arith)) ∙ front_only (length order) (omega arith)

@@ -68,7 +68,7 @@ running-first_least : (key : ℕ → ℕ) (x : ℕ) (places : List ℕ) → runn
 running-first_least key x [] = sym (first_least-one key x)
 running-first_least key x (y ∷ places) = running-first_least key (better key x y) places ∙ sym (first_least-two key x y places)
 
--- So it does from the first one on.
+-- FROM THE FIRST PLACE ON IT FINDS THE FIRST LEAST ONE
 pub running-all : (key : ℕ → ℕ) (places : List ℕ) → 0 < length places → running key (slice_index places 0) places ≡ first_least key places
 running-all key [] some = absurd (omega (arith, some))
 running-all key (x ∷ places) some = ap (λ best. running key best places) (better-same (nat_lt (key x) (key x)) refl) ∙ running-first_least key x places
@@ -101,7 +101,7 @@ running-among key all best (place ∷ places) one some =
     running-among key all (better key best place) places (better-among key all best place one (All-head (λ x. is_member ◌==◌ all x ≡ true) place places some))
     (All-tail (λ x. is_member ◌==◌ all x ≡ true) place places some)
 
--- It is one of the places.
+-- AND THAT IS ONE OF THE PLACES
 pub first_least-among : (key : ℕ → ℕ) (places : List ℕ) → places ≢ [] → is_member ◌==◌ places (first_least key places) ≡ true
 first_least-among key [] some = absurd (some refl)
 first_least-among key (x ∷ places) some =

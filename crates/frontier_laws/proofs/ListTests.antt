@@ -37,7 +37,7 @@ within g (x ∷ xs) ys h m =
     let here = passes g x ys (h x (grind (arith, nat_tests))) in
     grind (arith, rest, here, m)
 
--- Lists of numbers with the same members pass the same tests.
+-- LISTS OF NUMBERS WITH THE SAME MEMBERS PASS THE SAME TESTS
 pub same_tests : (g : ℕ → Bool) (xs ys : List ℕ) → ((p : ℕ) → is_member ◌==◌ xs p ≡ is_member ◌==◌ ys p) → list_any g xs ≡ list_any g ys
 same_tests g xs ys h =
     let a = within g xs ys (λ p k. sym (h p) ∙ k) in let b = within g ys xs (λ p k. h p ∙ k) in grind (arith, a, b)

@@ -33,7 +33,7 @@ AreOpen-open_names nodes = AreOpen-sorted (names_of nodes)
 pub increasing-open_names : (nodes : List Node) → IsStrictlyIncreasing (open_names nodes)
 increasing-open_names nodes = increasing-sorted (names_of nodes)
 
--- No other increasing list has just the names that stand once.
+-- NO OTHER INCREASING LIST HAS JUST THE NAMES THAT STAND ONCE
 pub open_names-only : (nodes : List Node) (names : List ℕ) → AreOpen (names_of nodes) names → IsStrictlyIncreasing names → names ≡ open_names nodes
 open_names-only nodes names h up =
     one_increasing names (open_names nodes) up (increasing-open_names nodes) (λ x. h.once x ∙ sym ((AreOpen-open_names nodes).once x))
@@ -70,7 +70,7 @@ module _ (nodes : List Node) (node : Node) (few : AreFew (nodes ++ node ∷ []))
         grind (arith, nat_tests, a, b, c, d, e);
   }
 
-  -- The names that are open with the node: those that stand once among the names that were open before and the node's ends.
+  -- THE NAMES THAT ARE OPEN WITH ONE NODE MORE: those that stand once among the names that were open and the node's ends
   pub open_after : (outer : List ℕ) → AreOpen (open_names nodes ++ node.ends) outer → IsStrictlyIncreasing outer → outer ≡ open_names (nodes ++ node ∷ [])
   open_after outer h up = open_names-only (nodes ++ node ∷ []) outer (AreOpen-after outer h) up
 

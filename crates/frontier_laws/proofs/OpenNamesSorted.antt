@@ -16,7 +16,6 @@ use Rattle.frontier_laws.specs.Orders.{placed, increasing}
 use Rattle.list_lemmas.proofs.Increasing.{pairs_head, pairs_tail, one_increasing}
 
 -- ---- how often a number stands in a list
--- ---- the names, increasing
 times_placed : (name : ℕ) (names : List ℕ) (x : ℕ) → times_in (placed name names) x ≡ cond (x == name) 1 0 + times_in names x
 times_placed name [] x = times_in-cons name [] x
 times_placed name (other ∷ names) x =
@@ -26,7 +25,7 @@ times_placed name (other ∷ names) x =
     (λ t. ap {B = ℕ} (λ c. times_in (cond c (other ∷ placed name names) (name ∷ other ∷ names)) x) t ∙ times_in-cons name (other ∷ names) x)
     (cases_Bool (nat_lt other name))
 
--- Sorted, each name stands as often as before.
+-- SORTED, EACH NAME STANDS AS OFTEN AS BEFORE
 pub times_increasing : (names : List ℕ) (x : ℕ) → times_in (increasing names) x ≡ times_in names x
 times_increasing [] x = refl
 times_increasing (name ∷ names) x =
@@ -72,12 +71,10 @@ pairs_increasing : (names : List ℕ) → AllPairs (λ x y. x ≤ y) (increasing
 pairs_increasing [] = λ i j d less l. absurd (omega (arith, l))
 pairs_increasing (name ∷ names) = pairs_placed name (increasing names) (pairs_increasing names)
 
--- Sorted, the names do not fall.
+-- SORTED, THE NAMES DO NOT FALL
 pub non_decreasing_increasing : (names : List ℕ) → IsNonDecreasing (increasing names)
 non_decreasing_increasing names i j d le l =
     ⊎_elim
     (λ same. let e = ap (λ k. get_or (increasing names) k d) same in omega (arith, e))
     (λ apart. pairs_increasing names i j d (omega (arith, le, apart)) l)
     (cases_eq i j)
-
--- ---- increasing lists

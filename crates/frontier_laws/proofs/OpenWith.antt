@@ -32,7 +32,7 @@ module _ (names ends : List ℕ) (once : (x : ℕ) → times_in names x ≤ 1) w
       let none = times_none names x in
       grind (arith, nat_tests, a, s, yes, none)
 
-  -- Of names that stand once each, those that are no ends stay open, and the ends that are none of them and stand once are new.
+  -- THE COUNT: of names that stand once each, those that are no ends stay open, and the ends that are none of them and stand once are new
   pub open_name_count-once : open_name_count (names ++ ends) ≡ count_by (λ name. not (is_member ◌==◌ ends name)) names + count_by (λ end. not (is_member ◌==◌ names end) && (times_in ends end == 1)) ends
   open_name_count-once =
       let p : ℕ → Bool = λ x. times_in (names ++ ends) x == 1 in

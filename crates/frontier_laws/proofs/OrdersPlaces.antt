@@ -143,7 +143,7 @@ module _ (count : ℕ) (order : List ℕ) (h : IsPartOrder count order) where
       let at = member_at order place m in
       subst (λ other. other < count) at.2 (All-get_or (λ other. other < count) order at.0 0 at.1 h.below)
 
-  -- The places of the order and those left are all places.
+  -- THE PLACES OF THE ORDER AND THOSE LEFT ARE ALL PLACES
   pub order_and_left : IsPermutation (range_with_len 0 count) (order ++ left_after count order)
   order_and_left =
       permuted_times (order ++ left_after count order) (range_with_len 0 count) (λ place.
@@ -162,7 +162,7 @@ module _ (count : ℕ) (order : List ℕ) (h : IsPartOrder count order) where
       let c = length-range_with_len 0 count in
       omega (arith, a, b, c)
 
-  -- The places that are not among those left are those of the order, increasing.
+  -- THE PLACES NOT AMONG THOSE LEFT ARE THOSE OF THE ORDER, increasing
   pub taken_again : IsPermutation order (left_after count (left_after count order))
   taken_again =
       permuted_times (left_after count (left_after count order)) order (λ place.

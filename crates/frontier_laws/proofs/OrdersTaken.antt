@@ -55,7 +55,7 @@ AreFew-network network h x =
     grind (arith, twice)
 
 module _ (nodes : List Node) (order : List ℕ) (h : IsPartOrder (length nodes) order) where
-  -- The nodes that are taken and those that are left are all nodes.
+  -- THE NODES THAT ARE TAKEN AND THOSE THAT ARE LEFT ARE ALL NODES
   pub taken_and_left : IsPermutation nodes (taken nodes order ++ taken nodes (left_after (length nodes) order))
   taken_and_left =
       let left = left_after (length nodes) order in
@@ -96,7 +96,7 @@ module _ (network : Network) (order : List ℕ) (net : IsNetwork network) (h : I
   pub AreFew-order : AreFew (taken network.nodes order)
   AreFew-order = AreFew-taken network.nodes order h (AreFew-network network net)
 
-  -- Where no place is left, the nodes that are taken have the network's value.
+  -- WHERE NO PLACE IS LEFT, THE NODES THAT ARE TAKEN HAVE THE NETWORK'S VALUE
   pub whole_value : left_after (length network.nodes) order ≡ [] → (m delta : ℕ) → value m delta record { nodes = taken network.nodes order; free_loops = network.free_loops } ≡ value m delta network
   whole_value none m delta = any_order m delta network.free_loops network.nodes (taken network.nodes order) net.nodes (whole_permuted network.nodes order h none)
 
@@ -106,7 +106,7 @@ module _ (network : Network) (order : List ℕ) (net : IsNetwork network) (h : I
       open_names-same (taken network.nodes order) network.nodes (times_permuted network.nodes (taken network.nodes order) (whole_permuted network.nodes order h none))
       ∙ open_names-closed network.nodes net.twice
 
--- What a view shows: places of the network, increasing, and the names that are open in the nodes not left.
+-- WHAT A VIEW SHOWS: places of the network, increasing, and the names that are open in the nodes not left
 pub shown_in_view : (network : Network) (order : List ℕ) → IsPartOrder (length network.nodes) order →
     All (λ place. place < length network.nodes) (view_after network order).left
     × IsStrictlyIncreasing (view_after network order).left

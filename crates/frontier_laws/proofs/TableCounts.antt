@@ -65,12 +65,6 @@ add_all-longer m (item ∷ items) table =
     let l = add_in-length m item.0 item.1 table in
     grind (arith, ih, l)
 
-front_small : (m : ℕ) (items front rest : List (ℕ × ℕ)) → items ≡ front ++ rest → length (add_all m [] front) ≤ length (add_all m [] items)
-front_small m items front rest e =
-    let a = ap (λ xs. length (add_all m [] xs)) e ∙ ap length (add_all-append m [] front rest) in
-    let b = add_all-longer m rest (add_all m [] front) in
-    omega (arith, a, b)
-
 front_small_new : (m : ℕ) (items front rest : List (ℕ × ℕ)) (item : ℕ × ℕ) → items ≡ front ++ item ∷ rest → is_member ◌==◌ (keys_of (add_all m [] front)) item.0 ≡ false →
     length (add_all m [] front) + 1 ≤ length (add_all m [] items)
 front_small_new m items front rest item e new =
@@ -89,13 +83,6 @@ module _ (nodes : List Node) (node : Node) (ok : All IsNode nodes) (node_ok : Is
       table_length m delta (nodes ++ node ∷ []) (add_all m [] (contributions delta (seam_of nodes node) node.terms table))
       (All-append IsNode nodes (node ∷ []) ok (All-cons IsNode node [] node_ok (All-nil IsNode))) few open_out narrow_after
       (table_after nodes node ok node_ok few narrow open_in open_out m delta table h)
-
-  -- Before that it has no more.
-  pub table_small : (front rest : List (ℕ × ℕ)) → contributions delta (seam_of nodes node) node.terms table ≡ front ++ rest → length (add_all m [] front) ≤ pairing_count (nodes ++ node ∷ [])
-  table_small front rest e =
-      let a = front_small m (contributions delta (seam_of nodes node) node.terms table) front rest e in
-      let b = table_length_after in
-      omega (arith, a, b)
 
   -- AN ITEM WITH A NEW CODE FITS AMONG THE PAIRINGS AFTER THE NODE
   pub table_small_new : (front rest : List (ℕ × ℕ)) (item : ℕ × ℕ) → contributions delta (seam_of nodes node) node.terms table ≡ front ++ item ∷ rest →

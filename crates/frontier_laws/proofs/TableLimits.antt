@@ -36,6 +36,7 @@ module _ (nodes : List Node) (node : Node) (ok : All IsNode nodes) (node_ok : Is
       (map (contribution delta seam entry) left ++ contributions delta seam node.terms rest) (contribution delta seam entry term)
       (items_split delta seam node.terms done entry table rest past left term table_is terms_are) new
 
+  -- AND SO IT DOES IN THE LOOPS
   pub new_code_fits_at : (i j : ℕ) (d : ℕ × ℕ) (e : Term) → i < length table → j < length node.terms →
       let so_far = add_all m [] (items_so_far delta (seam_of nodes node) node.terms (take i table) (get_or table i d) (take j node.terms)) in
       is_member ◌==◌ (keys_of so_far) (contribution delta (seam_of nodes node) (get_or table i d) (get_or node.terms j e)).0 ≡ false → length so_far + 1 ≤ pairing_count (nodes ++ node ∷ [])

@@ -4,31 +4,20 @@ use Rattle.std.proofs.lemmas.List.{map-append}
 use Rattle.std.proofs.lemmas.List.Concat.{flat_map-append}
 use Rattle.state_sums.specs.Networks.{Term}
 use Rattle.arc_pairing.specs.Gluing.{Seam}
-use Rattle.frontier_laws.specs.Tables.{add_in, add_all, contribution, contributions}
-use Rattle.frontier_laws.proofs.Tables.{add_all-push}
+use Rattle.frontier_laws.specs.Tables.{add_all, contribution, contributions}
 
 -- The items of the entries that are done, and of this entry with the terms that are past.
 abbrev pub items_so_far : ℕ → Seam → List Term → List (ℕ × ℕ) → ℕ × ℕ → List Term → List (ℕ × ℕ)
 items_so_far delta seam terms done entry past = contributions delta seam terms done ++ map (contribution delta seam entry) past
 
 module _ (delta : ℕ) (seam : Seam) (terms : List Term) (done : List (ℕ × ℕ)) (entry : ℕ × ℕ) where
-  -- Before the first term there are those of the entries that are done.
-  pub items_first : items_so_far delta seam terms done entry [] ≡ contributions delta seam terms done
-  items_first = append-nil (contributions delta seam terms done)
-
-  -- One term more gives one item more.
-  pub items_more : (past : List Term) (term : Term) → items_so_far delta seam terms done entry (past ++ term ∷ []) ≡ items_so_far delta seam terms done entry past ++ contribution delta seam entry term ∷ []
-  items_more past term =
-      ap (λ xs. contributions delta seam terms done ++ xs) (map-append (contribution delta seam entry) past (term ∷ []))
-      ∙ sym (append_assoc (contributions delta seam terms done) (map (contribution delta seam entry) past) (contribution delta seam entry term ∷ []))
-
   -- After all terms the entry is done.
   pub items_all : items_so_far delta seam terms done entry terms ≡ contributions delta seam terms (done ++ entry ∷ [])
   items_all =
       ap (λ xs. contributions delta seam terms done ++ xs) (sym (append-nil (map (contribution delta seam entry) terms)))
       ∙ sym (flat_map-append (λ e. map (contribution delta seam e) terms) done (entry ∷ []))
 
-  -- The items so far, the one that comes, and those after it.
+  -- THE ITEMS SO FAR, THE ONE THAT COMES, AND THOSE AFTER IT
   pub items_split : (table rest : List (ℕ × ℕ)) (past left : List Term) (term : Term) → table ≡ done ++ entry ∷ rest → terms ≡ past ++ term ∷ left →
       contributions delta seam terms table ≡ items_so_far delta seam terms done entry past ++ contribution delta seam entry term ∷ (map (contribution delta seam entry) left ++ contributions delta seam terms rest)
   items_split table rest past left term table_is terms_are =
@@ -39,10 +28,6 @@ module _ (delta : ℕ) (seam : Seam) (terms : List Term) (done : List (ℕ × �
       ∙ ap (λ xs. contributions delta seam terms done ++ xs) (append_assoc (map one past) (one term ∷ map one left) (contributions delta seam terms rest))
       ∙ sym (append_assoc (contributions delta seam terms done) (map one past) (one term ∷ (map one left ++ contributions delta seam terms rest)))
 
-  pub added_more : (m : ℕ) (past : List Term) (term : Term) →
-      add_all m [] (items_so_far delta seam terms done entry (past ++ term ∷ []))
-      ≡ add_in m (contribution delta seam entry term).0 (contribution delta seam entry term).1 (add_all m [] (items_so_far delta seam terms done entry past))
-  added_more m past term = ap (add_all m []) (items_more past term) ∙ add_all-push m [] (items_so_far delta seam terms done entry past) (contribution delta seam entry term)
-
+  -- AFTER ALL TERMS THE ENTRY IS DONE
   pub added_all : (m : ℕ) → add_all m [] (items_so_far delta seam terms done entry terms) ≡ add_all m [] (contributions delta seam terms (done ++ entry ∷ []))
   added_all m = ap (add_all m []) items_all

@@ -53,7 +53,7 @@ add_all-sum m worth (item ∷ items) table =
     ∙ add_same_mod m (sum_by f (add_in m item.0 item.1 table)) (sum_by f table + f item) (sum_by f items) (sum_by f items) (add_in-sum m worth item.0 item.1 table) refl
     ∙ ap (λ n. n % m) (let g : (sum_by f table + f item) + sum_by f items ≡ sum_by f table + sum_by f (item ∷ items) = omega (arith, c) in g)
 
--- What the contributions of a node come to, from the table before it.
+-- THE SUM OF THE CONTRIBUTIONS OF A NODE, from the table before it
 pub contributions-sum : (delta : ℕ) (node : Node) (inner outer : List ℕ) (worth : ℕ → ℕ) (table : List (ℕ × ℕ)) →
     let seam : Seam = record { inner = inner; ends = node.ends; outer = outer } in
     table_sum worth (contributions delta seam node.terms table) ≡ table_sum (λ code. worth_before delta node inner outer (λ partner. worth (code_of partner)) (decoded code)) table

@@ -1,5 +1,5 @@
 -- What one more item, and all items, make of a table: its codes, its length, its entries and its residues.
-use Rattle.std.proofs.Common.{◌≡◌, ℕ, ◌+◌, ◌%◌, ◌<◌, ◌==◌, Bool, cond, ◌||◌, List, [], ◌∷◌, ◌++◌, map, length, refl, sym, ap, subst, ◌∙◌, arith, None, Some, ⊎_elim}
+use Rattle.std.proofs.Common.{◌≡◌, ℕ, ◌+◌, ◌%◌, ◌<◌, ◌==◌, Bool, cond, ◌||◌, List, [], ◌∷◌, ◌++◌, length, refl, sym, ap, subst, ◌∙◌, arith, Some, ⊎_elim}
 use Rattle.std.specs.List.{IsDistinct, All}
 use Rattle.std.specs.Map.{keys_of, lookup, set_value}
 use Rattle.std.specs.Set.{is_member}
@@ -23,11 +23,6 @@ add_in-codes m code c (e ∷ table) q = let ih = add_in-codes m code c table q i
 pub add_in-length : (m code c : ℕ) (table : List (ℕ × ℕ)) → length (add_in m code c table) ≡ length table + cond (is_member ◌==◌ (keys_of table) code) 0 1
 add_in-length m code c [] = refl
 add_in-length m code c (e ∷ table) = let ih = add_in-length m code c table in grind (arith, nat_tests, ih)
-
--- A code that is not in the table is the last one after it.
-pub add_in_absent : (m code c : ℕ) (table : List (ℕ × ℕ)) → lookup (◌==◌ code) table ≡ None → add_in m code c table ≡ table ++ (code, c % m) ∷ []
-add_in_absent m code c [] h = refl
-add_in_absent m code c (e ∷ table) h = let ih = add_in_absent m code c table in grind (arith, ih, h)
 
 -- A code that is in the table has more at its place.
 pub add_in_present : (m code c old : ℕ) (table : List (ℕ × ℕ)) → lookup (◌==◌ code) table ≡ Some old → add_in m code c table ≡ set_value (◌==◌ code) table ((old + c) % m)
@@ -81,7 +76,7 @@ add_all-append m table (item ∷ front) back = add_all-append m (add_in m item.0
 pub add_all-push : (m : ℕ) (table front : List (ℕ × ℕ)) (item : ℕ × ℕ) → add_all m table (front ++ item ∷ []) ≡ add_in m item.0 item.1 (add_all m table front)
 add_all-push m table front item = add_all-append m table front (item ∷ [])
 
--- The codes after all items are those before them, and the items'.
+-- THE CODES AFTER ALL ITEMS ARE THOSE BEFORE THEM, AND THE ITEMS'
 pub add_all-codes : (m : ℕ) (items table : List (ℕ × ℕ)) (q : ℕ) → is_member ◌==◌ (keys_of (add_all m table items)) q ≡ (is_member ◌==◌ (keys_of table) q || is_member ◌==◌ (keys_of items) q)
 add_all-codes m [] table q = grind arith
 add_all-codes m (item ∷ items) table q =
@@ -95,10 +90,3 @@ add_all-distinct m (item ∷ items) table h = add_all-distinct m items (add_in m
 pub add_all-below : (m : ℕ) (items table : List (ℕ × ℕ)) → 0 < m → All (λ entry. entry.1 < m) table → All (λ entry. entry.1 < m) (add_all m table items)
 add_all-below m [] table pos h = h
 add_all-below m (item ∷ items) table pos h = add_all-below m items (add_in m item.0 item.1 table) pos (add_in-below m item.0 item.1 table pos h)
-
--- Only the residues of the items count.
-pub add_all-residues : (m : ℕ) (items table : List (ℕ × ℕ)) → add_all m table (map (λ item. (item.0, item.1 % m)) items) ≡ add_all m table items
-add_all-residues m [] table = refl
-add_all-residues m (item ∷ items) table =
-    ap (λ t. add_all m t (map (λ (i : ℕ × ℕ). (i.0, i.1 % m)) items)) (add_in-residue m item.0 item.1 table)
-    ∙ add_all-residues m items (add_in m item.0 item.1 table)

@@ -1,26 +1,15 @@
 -- Turns and limits, from some nodes to one more: the turns that come, and whether a limit is met.
-use Rattle.std.proofs.Common.{◌≡◌, ℕ, zero, suc, ◌+◌, ◌*◌, ◌<◌, ◌≤◌, List, [], ◌∷◌, ◌++◌, map, length, take, sum_by, refl, sym, ap, subst, ◌∙◌, arith, length-append, ⊎_elim, ◌⊎◌}
+use Rattle.std.proofs.Common.{◌≡◌, ℕ, zero, suc, ◌+◌, ◌*◌, ◌<◌, ◌≤◌, List, [], ◌∷◌, ◌++◌, length, take, sum_by, sym, ap, subst, ◌∙◌, arith, length-append, ⊎_elim, ◌⊎◌}
 use Rattle.std.specs.List.{range_with_len}
 use Rattle.std.proofs.Math.ListN.{get_or-append}
 use Rattle.std.proofs.Math.Seq.{take-length, get_or-append_seam, take-append_seam}
-use Rattle.std.proofs.lemmas.List.{length-map, take-append-le}
+use Rattle.std.proofs.lemmas.List.{take-append-le}
 use Rattle.std.proofs.lemmas.List.Sums.{sum_by-append, sum_by-cons}
-use Rattle.state_sums.specs.Networks.{Node, Term}
-use Rattle.arc_pairing.specs.Gluing.{Seam}
+use Rattle.state_sums.specs.Networks.{Node}
 use Rattle.frontier_laws.specs.Orders.{node_at}
-use Rattle.frontier_laws.specs.Tables.{contribution, contributions}
 use Rattle.frontier_laws.specs.Turns.{pairing_count, turns_of, open_count, IsWithinAt, IsWithin, IsWideAt, IsFullAt}
 use Rattle.list_lemmas.proofs.Sums.{sum_range}
 use Rattle.list_lemmas.proofs.Ranges.{range_more}
-
--- Each entry and each term give one item.
-pub items_length : (delta : ℕ) (seam : Seam) (terms : List Term) (table : List (ℕ × ℕ)) → length (contributions delta seam terms table) ≡ length table * length terms
-items_length delta seam terms [] = omega arith
-items_length delta seam terms (entry ∷ table) =
-    let one = length-map terms (contribution delta seam entry) in
-    let both = length-append (map (contribution delta seam entry) terms) (contributions delta seam terms table) in
-    let ih = items_length delta seam terms table in
-    omega (arith, one, both, ih)
 
 -- ---- turns
 length_more : (nodes : List Node) (node : Node) → length (nodes ++ node ∷ []) ≡ suc (length nodes)
@@ -62,7 +51,7 @@ pub within_none : IsWithin []
 within_none zero l = record { narrow = omega arith; few = omega arith }
 within_none (suc k) l = absurd (omega (arith, l))
 
--- One more node that meets none either.
+-- ONE MORE NODE THAT MEETS NO LIMIT EITHER
 pub within_after : (nodes : List Node) (node : Node) → IsWithin nodes → open_count (nodes ++ node ∷ []) ≤ 24 → pairing_count (nodes ++ node ∷ []) ≤ 262144 → IsWithin (nodes ++ node ∷ [])
 within_after nodes node h narrow few k l =
     let long = length_more nodes node in
@@ -85,6 +74,6 @@ before_last nodes node h k l =
 pub wide_after : (nodes : List Node) (node : Node) (ends : ℕ) → IsWithin nodes → open_count (nodes ++ node ∷ []) ≡ ends → 24 < ends → IsWideAt (nodes ++ node ∷ []) ends
 wide_after nodes node ends h count wide = record { wide = wide; count = count; first = before_last nodes node h }
 
--- One more node with which there are too many pairings.
+-- ONE MORE NODE WITH WHICH THERE ARE TOO MANY PAIRINGS
 pub full_after : (nodes : List Node) (node : Node) → IsWithin nodes → open_count (nodes ++ node ∷ []) ≤ 24 → 262144 < pairing_count (nodes ++ node ∷ []) → IsFullAt (nodes ++ node ∷ [])
 full_after nodes node h narrow full = record { narrow = narrow; full = full; first = before_last nodes node h }

@@ -81,6 +81,7 @@ module _ (answers : View → ℕ → Type 0) (m delta : ℕ) (network : Network)
     whole_more : length (h.order ++ place ∷ []) ≡ done + 1
     whole_more = length-append h.order (place ∷ []) ∙ ap (λ n. n + 1) h.whole
 
+    -- ONE MORE ANSWER
     pub one_more : (next : Frontier) (after : ℕ) → IsFrontier m delta network (h.order ++ place ∷ []) next after → IsContractedTo answers m delta network (done + 1) next after
     one_more next after is = record { order = h.order ++ place ∷ []; chosen = chosen_more; whole = whole_more; is = is }
 
@@ -99,6 +100,7 @@ module _ (answers : View → ℕ → Type 0) (m delta : ℕ) (network : Network)
         empty [] e = refl
         empty (x ∷ xs) e = absurd (omega (arith, e))
 
+    -- AT THE END THE TABLE HAS THE VALUE
     pub summed : unwrap_or (lookup (◌==◌ 0) frontier.table) 0 * delta ^ network.free_loops % m ≡ value m delta network
     summed =
         let none = whole_closed network h.order small.twice h.is.part none_left in

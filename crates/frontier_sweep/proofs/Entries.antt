@@ -35,7 +35,7 @@ small_remainder : (m c : ℕ) → c < m → c % m ≡ c
 unfolding residue
 small_remainder m c small = residue_small m c small
 
--- So a code that is not found is added by an insertion.
+-- A CODE THAT IS NOT FOUND IS ADDED BY AN INSERTION
 pub inserted : (m code c : ℕ) (table : List (ℕ × ℕ)) → c < m → None ≡ lookup (◌==◌ code) table → insert_entry ◌==◌ table code c ≡ add_in m code c table
 inserted m code c table small none =
     let none_more : 0 + c ≡ c = omega arith in

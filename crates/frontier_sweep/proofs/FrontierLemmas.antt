@@ -1,4 +1,5 @@
--- One step of a frontier: what it asks, where it stops, and what it leaves.
+-- One step of a frontier: what it asks, where it stops, and what it leaves. A frontier is that of the nodes taken so far, so each
+-- is a law of these nodes and one more.
 use Rattle.std.proofs.Common.{◌≡◌, ℕ, ◌+◌, ◌*◌, ◌<◌, ◌≤◌, ◌==◌, true, List, [], ◌∷◌, ◌++◌, map, take, take_all, length, slice_index, get_or, sym, ap, subst, ◌∙◌, arith}
 use Rattle.std.specs.List.{All, remove}
 use Rattle.std.specs.List.Sorted.{IsStrictlyIncreasing}
@@ -116,7 +117,7 @@ module _ (m delta : ℕ) (network : Network) (order : List ℕ) (frontier : Fron
       let e = table_long in
       omega (arith, w, e)
 
-  -- The node can be glued.
+  -- THE NODE CAN BE GLUED
   pub ready : IsReady m frontier.names node frontier.table count
   ready = record {
     few_names = subst (λ (names : List ℕ). length names ≤ 24) (sym h.names_are) narrow;
@@ -171,13 +172,14 @@ module _ (m delta : ℕ) (network : Network) (order : List ℕ) (frontier : Fron
       let fits = new_code_fits_at nodes node ok node_ok few narrow (narrow_after over.seam over.is) open_in open_out m delta frontier.table h.table_of inside.entry at (0, 0) none inside.within term_in new in
       subst IsFullAt (sym more) (full_after nodes node h.within (narrow_after over.seam over.is) (omega (arith, many, fits)))
 
-  -- A reason against the node is a limit that its place meets.
+  -- A REASON AGAINST THE NODE IS A LIMIT THAT ITS PLACE MEETS
   pub limit : (reason : NotGlued) → Explains m delta frontier.names node frontier.table reason → IsLimitAfter network (order ++ place ∷ []) reason
   limit (Wide ends) explains = wide ends explains.0 explains.1
   limit Full explains = full explains
   limit Memory explains = explains
 
   -- ---- what it leaves
+  -- THE FRONTIER WITH ONE NODE MORE
   pub next_frontier : (seam : Seam) → IsSeamOf frontier.names node.ends seam → IsShortNode node → (at : ℕ) → at < length frontier.left → slice_index frontier.left at ≡ place →
       (table : List (ℕ × ℕ)) → table ≡ add_all m [] (contributions delta seam node.terms frontier.table) → length table ≤ 262144 → (after : ℕ) → after ≡ count + length frontier.table * length node.terms →
       IsFrontier m delta network (order ++ place ∷ []) record { left = remove frontier.left at; names = seam.outer; table = table } after

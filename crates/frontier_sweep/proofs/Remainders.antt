@@ -44,7 +44,7 @@ filled_more f xs i value within is before k small = at (k == i) refl
     at true e = let same : k ≡ i = grind (arith, nat_tests, e) in ap (slice_index (set xs i value)) same ∙ get_or-set_same xs i value 0 within ∙ is ∙ ap f (sym same)
     at false e = let apart : k ≢ i = grind (arith, nat_tests, e) in get_or-set_other xs i k value 0 apart ∙ before k (omega (arith, small, apart))
 
--- A coefficient times a power, both reduced.
+-- A COEFFICIENT TIMES A POWER, BOTH REDUCED
 pub product_of_remainders : (m delta coefficient free n step outer : ℕ) → n ≡ free → step ≡ residue m (power (pos delta) n) → outer ≡ residue m (pos coefficient *ℤ pos step) → outer ≡ coefficient * delta ^ free % m
 product_of_remainders m delta coefficient free n step outer n_is step_is outer_is =
     outer_is

@@ -1,4 +1,4 @@
--- What holds in the loops of a step, pass by pass.
+-- What holds in the loops of a step, pass by pass: the table is that of the terms glued so far, and has at most 262,144 entries.
 use Rattle.std.proofs.Common.{◌≡◌, ℕ, ◌+◌, ◌*◌, ◌<◌, ◌≤◌, ◌%◌, ◌==◌, false, List, [], ◌∷◌, ◌++◌, map, take, length, get_or, Some, sym, ap, subst, ◌∙◌, arith}
 use Rattle.std.specs.List.{All}
 use Rattle.std.specs.Map.{keys_of}
@@ -29,7 +29,7 @@ module _ (powers : LoopPowers) (seam : Seam) (partner : List ℕ) (coefficient :
   abbrev pub item : Term → ℕ × ℕ
   item = glued_item powers.delta seam partner coefficient
 
-  -- One term more.
+  -- ONE TERM MORE
   pub glued_more : (code more : ℕ) (after : List (ℕ × ℕ)) → code ≡ (item term).0 → more ≡ (item term).1 % powers.modulus → more < powers.modulus → after ≡ add_in powers.modulus code more next → length after ≤ 262144 →
       IsGluedTo powers seam partner coefficient terms old count (j + 1) after (turns + 1)
   glued_more code more after code_is more_is small after_is few = record {
@@ -71,7 +71,7 @@ pub record IsGluedToAll (powers : LoopPowers) (seam : Seam) (terms : List Term) 
 
 module _ (powers : LoopPowers) (seam : Seam) (terms : List Term) (table next : List (ℕ × ℕ)) (count i turns : ℕ) (h : IsGluedToAll powers seam terms table count i next turns) (within : i < length table) (entry : ℕ × ℕ)
     (read : entry ≡ get_or table i (0, 0)) where
-  -- One entry more.
+  -- ONE ENTRY MORE
   pub entry_more : 0 < powers.modulus → (after : List (ℕ × ℕ)) → after ≡ add_all powers.modulus next (map (contribution powers.delta seam entry) terms) → length after ≤ 262144 →
       IsGluedToAll powers seam terms table count (i + 1) after (turns + length terms)
   entry_more some after after_is few = record {

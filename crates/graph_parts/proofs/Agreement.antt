@@ -63,6 +63,7 @@ Joined-wider es fs h stay = stay
 Joined-wider es fs h (back j) = back (Joined-wider es fs h j)
 Joined-wider es fs h (on j k) = on (Joined-wider es fs h j) (Joined-wider es fs h k)
 
+-- THE SAME EDGES TELL THE SAME NAMES APART
 pub Agree-same_edges : (inside : ℕ → Bool) (es fs : List (ℕ × ℕ)) → ((x y : ℕ) → Contains es (x, y) → Contains fs (x, y) ⊎ Contains fs (y, x)) →
     ((x y : ℕ) → Contains fs (x, y) → Contains es (x, y) ⊎ Contains es (y, x)) → Agree inside (label_of es) (label_of fs)
 Agree-same_edges inside es fs h k = Agree-from_Joined inside es fs (λ x y p q. (Joined-wider es fs h, Joined-wider fs es k))

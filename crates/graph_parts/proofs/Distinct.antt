@@ -38,6 +38,7 @@ pub distinct_count-below : (xs ys : List ℕ) → distinct_count ◌==◌ ys ≤
 distinct_count-below [] ys = omega arith
 distinct_count-below (x ∷ xs) ys = let ih = distinct_count-below xs ys in let e = distinct_count-cons x (xs ++ ys) in omega (arith, e)
 
+-- WHAT STANDS IN THE OTHER LIST ADDS NONE
 pub distinct_count-absorb : (xs ys : List ℕ) → AllPass (is_member ◌==◌ ys) xs → distinct_count ◌==◌ (xs ++ ys) ≡ distinct_count ◌==◌ ys
 distinct_count-absorb [] ys h = refl
 distinct_count-absorb (x ∷ xs) ys h =
@@ -47,6 +48,7 @@ distinct_count-absorb (x ∷ xs) ys h =
     let i = is_member-append xs ys x in
     grind (arith, ih, here, e, i)
 
+-- A LIST WITHIN ANOTHER HAS NO MORE NUMBERS
 pub distinct_count-le_from_within : (xs ys : List ℕ) → AllPass (is_member ◌==◌ ys) xs → distinct_count ◌==◌ xs ≤ distinct_count ◌==◌ ys
 distinct_count-le_from_within xs ys h =
     let e = distinct_count-below ys xs in let f = distinct_count-swap xs ys in let g = distinct_count-absorb xs ys h in omega arith

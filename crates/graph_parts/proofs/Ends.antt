@@ -1,4 +1,4 @@
--- Ends of edges that are put together.
+-- Ends of edges that are put together: they pass a test where the ends of each list do.
 use Rattle.std.proofs.Common.{◌≡◌, ℕ, ◌<◌, Bool, true, ◌==◌, List, [], ◌∷◌, ◌++◌, length, slice_index, zip, refl}
 use Rattle.std.specs.List.{AllPass}
 use Rattle.std.specs.Set.{is_member}
@@ -17,6 +17,7 @@ pub EndsAre-weaker : (p q : ℕ → Bool) → ((x : ℕ) → p x ≡ true → q 
 EndsAre-weaker p q w [] h = tt
 EndsAre-weaker p q w (e ∷ es) h = (w e.0 h.0, w e.1 h.1, EndsAre-weaker p q w es h.2)
 
+-- THE ENDS OF PAIRS ARE IN THE TWO LISTS
 pub EndsAre-zip : (p : ℕ → Bool) (xs ys : List ℕ) → AllPass p xs → AllPass p ys → EndsAre p (zip xs ys)
 EndsAre-zip p [] ys h k = tt
 EndsAre-zip p (x ∷ xs) [] h k = tt

@@ -32,11 +32,13 @@ module _ (names others inner_open outer_open : List ℕ) (es fs : List (ℕ × �
       (EndsAre-weaker (is_member ◌==◌ others) (is_outer names inner_open) outer_others fs q) (Agree-pattern names inner_open es p) in
       λ u v hu hv. ap (λ k. k u == k v) (label_after-append (λ x. x) es fs) ∙ h u v hu hv ∙ sym (ap (λ k. k u == k v) (label_after-append (λ x. x) (zip inner_open (label_pattern es inner_open)) fs))
 
+  -- THE PATTERN OF BOTH
   pub label_pattern-glue : label_pattern (es ++ fs) outer_open ≡ label_pattern (zip inner_open (label_pattern es inner_open) ++ fs) outer_open
   label_pattern-glue =
       map_agree_on (is_outer names inner_open) _ _ outer_open left_outer
       (λ x m. first_like-agree (is_outer names inner_open) (label_of (es ++ fs)) (label_of (zip inner_open (label_pattern es inner_open) ++ fs)) outer_open x agree m left_outer)
 
+  -- THE CLOSED PARTS OF BOTH
   pub label_closed-glue : label_closed (es ++ fs) (names ++ others) outer_open ≡ label_closed es names inner_open + label_closed (zip inner_open (label_pattern es inner_open) ++ fs) (others ++ inner_open) outer_open
   label_closed-glue =
       let after = label_of (zip inner_open (label_pattern es inner_open) ++ fs) in

@@ -1,4 +1,4 @@
--- Names that are the numbers from 0 on.
+-- Names that are the numbers from 0 on: a name stands among the first n just where it is below n, and each stands once.
 use Rattle.std.proofs.Common.{◌≡◌, ℕ, ◌+◌, ◌<◌, true, ◌==◌, List, [], ◌∷◌, sym, ap, ◌∙◌, arith, All, ⊎_elim, zero, suc, false, cond, refl}
 use Rattle.std.specs.List.{range_with_len}
 use Rattle.std.specs.Set.{is_member, unique_keys}
@@ -41,5 +41,6 @@ below_end a x zero m = absurd (grind (arith, m))
 below_end a x (suc n) m =
     ⊎_elim (λ t. let e = eqb-true x a t in omega (arith, e)) (λ t. let ih = below_end (a + 1) x n t in omega (arith, ih)) (or_cases (x == a) (is_member ◌==◌ (range_with_len (a + 1) n) x) m)
 
+-- WHAT STANDS AMONG THE FIRST N NUMBERS IS BELOW N
 pub numbered-member : (n x : ℕ) → is_member ◌==◌ (range_with_len 0 n) x ≡ true → x < n
 numbered-member n x m = let h = below_end 0 x n m in omega (arith, h)

@@ -26,9 +26,11 @@ use Rattle.graph_parts.proofs.Rounds.{part-Joined, part-names, count_by-cons}
 use Rattle.graph_parts.proofs.Through.{label_count-through}
 use Rattle.graph_parts.proofs.Walks.{Joined-from_labels, labels-from_Joined}
 
+-- A PART IS WHAT WALKS JOIN
 pub parts_by_walks : PartsByWalksLaw
 parts_by_walks names edges x y among there = part-Joined names edges x y there among
 
+-- TO BE IN ONE PART IS AN EQUIVALENCE
 pub part_equivalence : PartEquivalenceLaw
 part_equivalence names edges among = record {
   itself = λ x there. (parts_by_walks names edges x x among there).1 stay;
@@ -40,6 +42,7 @@ part_equivalence names edges among = record {
       (parts_by_walks names edges x z among there).1 (on ((parts_by_walks names edges x y among there).0 h) ((parts_by_walks names edges y z among m).0 k));
 }
 
+-- NO NAMES, NO PARTS
 pub no_names : NoNamesLaw
 unfolding part_count
 no_names edges = refl
@@ -60,16 +63,19 @@ one_more names edges x y among =
     let after = part_count-labels names ((x, y) ∷ edges) among in
     omega (arith, turned, step, counted, before, after)
 
+-- AN EDGE WITHIN A PART
 pub joined_edge : JoinedEdgeLaw
 joined_edge names edges x y among j =
     let t = eq-eqb (label_of edges x) (label_of edges y) (labels-from_Joined edges j) in let e = one_more names edges x y among in grind (arith, t, e)
 
+-- AN EDGE BETWEEN TWO PARTS
 pub apart_edge : ApartEdgeLaw
 apart_edge names edges x y among apart =
     let e = one_more names edges x y among in
     ⊎_elim (λ t. absurd (apart (Joined-from_labels edges x y (eqb-true (label_of edges x) (label_of edges y) t)))) (λ f. grind (arith, f, e)) (cases_Bool (label_of edges x == label_of edges y))
 
 -- ---- many edges
+-- CONTRACTION
 pub contraction : ContractionLaw
 contraction names inside es fs more p q r s alike =
     let test = is_member ◌==◌ names in
@@ -80,6 +86,7 @@ contraction names inside es fs more p q r s alike =
     let e = label_count-contract (is_member ◌==◌ inside) names es fs more s r (Agree-from_Joined (is_member ◌==◌ inside) es fs alike) in
     omega (arith, a, b, c, d, e)
 
+-- THE SAME EDGES
 pub same_edges : SameEdgesLaw
 same_edges names es fs p q h k =
     part_count-labels names es p
@@ -99,6 +106,7 @@ label_count-same_names l names others h =
     let b = distinct_count-le_from_within (map l others) (map l names) (within_labels l others names (λ x m. h x ∙ m)) in
     omega (arith, a, b)
 
+-- THE SAME NAMES
 pub same_names : SameNamesLaw
 same_names names others edges p h =
     part_count-labels names edges p
@@ -109,6 +117,7 @@ pub AreAmong-renamed : (rename : ℕ → ℕ) (names : List ℕ) (edges : List (
 AreAmong-renamed rename names [] h = tt
 AreAmong-renamed rename names (e ∷ edges) h = (is_member-map rename names e.0 h.0, is_member-map rename names e.1 h.1, AreAmong-renamed rename names edges h.2)
 
+-- OTHER NAMES
 pub other_names : OtherNamesLaw
 other_names rename names edges p h =
     part_count-labels (map rename names) (map (renamed rename) edges) (AreAmong-renamed rename names edges p)
@@ -122,6 +131,7 @@ AreAmong-append names others es fs p q =
     (EndsAre-weaker (is_member ◌==◌ names) (is_member ◌==◌ (names ++ others)) (λ x m. is_member-append names others x ∙ or_left (is_member ◌==◌ names x) (is_member ◌==◌ others x) m) es p)
     (EndsAre-weaker (is_member ◌==◌ others) (is_member ◌==◌ (names ++ others)) (λ x m. is_member-append names others x ∙ or_right (is_member ◌==◌ names x) (is_member ◌==◌ others x) m) fs q)
 
+-- TWO GRAPHS WITHOUT A COMMON NAME
 pub disjoint_graphs : DisjointGraphsLaw
 disjoint_graphs names others es fs p q apart =
     let whole = part_count-labels (names ++ others) (es ++ fs) (AreAmong-append names others es fs p q) in
@@ -132,9 +142,11 @@ disjoint_graphs names others es fs p q apart =
     omega (arith, whole, first, second, through, same)
 
 -- ---- representatives and least names
+-- AS MANY PARTS AS REPRESENTATIVES
 pub as_many_representatives : AsManyRepresentativesLaw
 as_many_representatives names chosen edges p r = length-AreRepresentatives edges names chosen r ∙ sym (part_count-labels names edges p)
 
+-- LEAST NAMES TELL PARTS APART
 pub least_names_tell : LeastNamesTellLaw
 least_names_tell names edges x y p m n = least_name-Joined names edges p x y m n
 
@@ -146,6 +158,7 @@ count_by_all f g (x ∷ xs) h =
     let a = count_by-cons f x xs in let b = count_by-cons g x xs in
     grind (arith, here, ih, a, b)
 
+-- PARTS COUNTED BY LEAST NAMES
 pub count_by_least : CountByLeastLaw
 unfolding part_count
 count_by_least names edges p =
@@ -173,6 +186,7 @@ outer_both names others inner outer has left =
     (λ x m. is_member-append names others x ∙ (let a = is_member-append others inner x in let i = from_All (is_member ◌==◌ names) inner has x in grind (arith, m, a, i)))
     outer left
 
+-- THE PATTERN OF TWO GRAPHS
 pub pattern_gluing : PatternGluingLaw
 pattern_gluing names others inner outer es fs p q seam left =
     let found = label_pattern es inner in
@@ -181,6 +195,7 @@ pattern_gluing names others inner outer es fs p q seam left =
     ∙ sym (pattern-labels (others ++ inner) (zip inner found ++ fs) (AreAmong-glued others inner found fs (label_pattern-among es inner) q) outer left)
     ∙ ap (λ f. pattern (others ++ inner) (zip inner f ++ fs) outer) (sym (pattern-labels names es p inner seam.has_open))
 
+-- THE CLOSED PARTS OF TWO GRAPHS
 pub closed_gluing : ClosedGluingLaw
 closed_gluing names others inner outer es fs p q seam left =
     let found = label_pattern es inner in

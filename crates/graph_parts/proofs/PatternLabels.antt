@@ -1,4 +1,5 @@
--- Patterns and closed parts, by labels.
+-- Patterns and closed parts, by labels: a name has the first of the open names in its part just where it has the first with
+-- its label, since names have one label where they are in one part.
 use Rattle.std.proofs.Common.{◌≡◌, ℕ, suc, ◌-◌, true, false, cond, ◌==◌, List, [], ◌∷◌, refl, sym, ap, ◌∙◌, arith}
 use Rattle.std.specs.List.{AllPass}
 use Rattle.std.specs.Set.{is_member, distinct_count}

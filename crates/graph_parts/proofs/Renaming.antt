@@ -63,6 +63,7 @@ map_agree_on inside f g [] a h = refl
 map_agree_on inside f g (x ∷ xs) a h =
     let e = h x (All-head (λ z. inside z ≡ true) x xs a) in let ih = map_agree_on inside f g xs (All-tail (λ z. inside z ≡ true) x xs a) h in cc
 
+-- AND IT KEEPS THE PATTERN
 pub label_pattern-map : (r : ℕ → ℕ) (names open_names : List ℕ) (es : List (ℕ × ℕ)) → IsOneToOne r names → AreAmong names es → AllPass (is_member ◌==◌ names) open_names →
     label_pattern (map (renamed r) es) (map r open_names) ≡ map r (label_pattern es open_names)
 label_pattern-map r names open_names es h p a =

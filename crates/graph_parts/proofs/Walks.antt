@@ -1,4 +1,5 @@
--- Two names have one label exactly where a walk joins them. By induction on the edges, for any labels to begin with.
+-- Two names have one label exactly where a walk joins them. By induction on the edges, for any labels to begin with: where
+-- two names get one label, each is linked to the other by walks and by labels that they had before.
 use Rattle.std.proofs.Common.{◌≡◌, ℕ, zero, suc, ◌==◌, if◌then◌else◌, List, [], ◌∷◌, Contains, refl, sym, ap, ◌∙◌, arith, inl, inr, ⊎_elim, ◌⊎◌, ◌↔◌, subst}
 use Rattle.std.proofs.lemmas.Bool.{cases_Bool}
 use Rattle.std.proofs.lemmas.Bool.Decides.{nat_tests}
@@ -57,6 +58,7 @@ label_after-edge label (e ∷ es) x y h =
     (λ q. label_after-edge (relabel label e) es x y q)
     (Contains-cases e (x, y) es h)
 
+-- WHAT A WALK JOINS HAS ONE LABEL
 pub labels-from_Joined : (es : List (ℕ × ℕ)) {x y : ℕ} → Joined es x y → label_of es x ≡ label_of es y
 labels-from_Joined es (along {x = x} {y = y} h) = label_after-edge (λ z. z) es x y h
 labels-from_Joined es stay = refl
@@ -69,8 +71,6 @@ Joined-from_Linked es (edge h) = along h
 Joined-from_Linked es (turn h) = back (Joined-from_Linked es h)
 Joined-from_Linked es (chain h k) = on (Joined-from_Linked es h) (Joined-from_Linked es k)
 
+-- WHAT HAS ONE LABEL A WALK JOINS
 pub Joined-from_labels : (es : List (ℕ × ℕ)) (x y : ℕ) → label_of es x ≡ label_of es y → Joined es x y
 Joined-from_labels es x y h = Joined-from_Linked es (Linked-from_labels (λ z. z) es x y h)
-
-pub Joined-labels : (es : List (ℕ × ℕ)) (x y : ℕ) → (label_of es x ≡ label_of es y) ↔ Joined es x y
-Joined-labels es x y = (Joined-from_labels es x y, λ h. labels-from_Joined es h)

@@ -1,5 +1,5 @@
--- The strands of a diagram: nodes and loops of one more item, and each name stands twice since each label does.
--- weights_below.
+-- The strands of a diagram: nodes and loops of one more item; each name stands twice since each label does, and the weights are
+-- residues.
 use Rattle.std.proofs.Common.{◌≡◌, ℕ, zero, suc, ◌+◌, ◌-◌, ◌*◌, pos, ◌≤◌, ◌<◌, ◌==◌, true, cond, List, [], ◌∷◌, ◌++◌, map, length, get_or, take, refl, sym, ap, ◌∙◌, subst, arith, All, ⊎_elim, append-nil}
 use Rattle.std.specs.List.{AllByRecursion}
 use Rattle.std.specs.Set.{is_member}
@@ -173,7 +173,7 @@ pub one_loop : (p : Parameters) (items : List Item) (i label : ℕ) (old new : L
 one_loop p items i label old new l read old_is new_is =
     new_is ∙ old_is ∙ sym (nodes_more p items i (Loop label) l read ∙ append-nil (crossing_nodes p 1 (take i items)))
 
--- the weights are residues
+-- THE WEIGHTS ARE RESIDUES
 pub weights_below : (p : Parameters) (group : ℕ) (items : List Item) → WeightsBelow p.modulus (crossing_nodes p group items)
 weights_below p group [] = All-nil (λ node. All (λ term. term.weight < p.modulus) node.terms)
 weights_below p group (X slots ∷ items) =

@@ -1,4 +1,4 @@
--- The relations of braids, as relations of words.
+-- The relations of braids, as relations of words: both sides are sums over hooks, which Temperley and Lieb's relations make equal.
 use Rattle.std.proofs.Common.{ℕ, ◌+◌, ◌*◌, [], ◌∷◌, sym, ap, arith}
 use Rattle.state_sums.specs.LocalSums.{AreSkeinNumbers}
 use Rattle.state_sums.proofs.Congruent.{congruent_by}

@@ -1,4 +1,5 @@
--- The coloured moves, as words: bundles of strands in place of strands.
+-- The coloured moves, as words: bundles of strands in place of strands. A crossing of bundles is a word of crossings, and a word
+-- slides through a bundle that crosses it.
 use Rattle.std.proofs.Common.{◌≡◌, ◌≢◌, ℕ, zero, suc, Bool, true, false, not, ◌+◌, ◌<◌, ◌≤◌, ◌⊎◌, inl, inr, ⊎_elim, List, [], ◌∷◌, ◌++◌, refl, sym, ap, ap₂, ◌∙◌, arith, append_assoc, append-nil, subst}
 use Rattle.state_sums.specs.LocalSums.{AreSkeinNumbers}
 use Rattle.strand_words.specs.Words.{Letter, SameWord}

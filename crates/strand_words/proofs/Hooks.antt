@@ -106,6 +106,7 @@ module _ (p q r s : ℕ) (mate : ℕ → ℕ) (h : IsMating mate) (d : p ≢ q) 
       (λ t. ⊎_elim far_q (λ u. ⊎_elim (far_r t u) (λ v. ⊎_elim (far_s t u) (far_none t u v) (cases_eq (mate q) s)) (cases_eq (mate q) r)) (cases_eq (mate p) s))
       (cases_eq (mate p) r)
 
+-- HOOKS FAR APART
 pub hooked_far : (p q r s : ℕ) (mate : ℕ → ℕ) → IsMating mate → p ≢ q → p ≢ r → p ≢ s → q ≢ r → q ≢ s → r ≢ s →
     hooked p q (hooked r s mate) ≡ hooked r s (hooked p q mate)
 hooked_far p q r s mate h d e f g i j = fun_ext _ _ (far_at p q r s mate h d e f g i j)

@@ -28,10 +28,6 @@ pub IsFrom-append : (bound : ℕ) (u v : List Letter) → IsFrom bound u → IsF
 IsFrom-append bound [] v a b = b
 IsFrom-append bound (j ∷ u) v a b = (a.0, IsFrom-append bound u v a.1 b)
 
-pub AreCrossings-append : (m delta : ℕ) (u v : List Letter) → AreCrossings m delta u → AreCrossings m delta v → AreCrossings m delta (u ++ v)
-AreCrossings-append m delta [] v a b = b
-AreCrossings-append m delta (j ∷ u) v a b = (a.0, AreCrossings-append m delta u v a.1 b)
-
 module _ {m delta : ℕ} where
   pub itself : {u : List Letter} → SameWord m delta u u
   itself = record { at = λ worth mate h. refl }
@@ -87,6 +83,7 @@ module _ {m delta : ℕ} where
       (on (before u (letter_far bound j v a.0 b)) (same (append_assoc v (j ∷ []) u)))
 
   -- ---- inverse_word
+  -- A WORD AND ITS INVERSE
   pub undone : (u : List Letter) → AreCrossings m delta u → SameWord m delta (u ++ inverse u) []
   undone [] a = itself
   undone (j ∷ u) a =

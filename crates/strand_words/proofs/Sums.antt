@@ -41,6 +41,7 @@ both : (a b c d : ℕ) → a ≡ c → b ≡ d → a * b ≡ c * d
 both a b c d e f = ap (λ n. n * b) e ∙ ap (λ n. c * n) f
 
 module _ (delta p q r : ℕ) (worth : (ℕ → ℕ) → ℕ) (mate : ℕ → ℕ) (h : IsMating mate) (d : p ≢ q) (e : q ≢ r) (f : p ≢ r) where
+  -- TEMPERLEY AND LIEB'S RELATIONS, IN SUMS
   pub hook_twice : hook_worth delta p q (hook_worth delta p q worth) mate ≡ delta * hook_worth delta p q worth mate
   hook_twice =
       let w = loop_worth delta p q mate in
@@ -73,6 +74,7 @@ module _ (delta p q r : ℕ) (worth : (ℕ → ℕ) → ℕ) (mate : ℕ → ℕ
 far_plain : (v w x y k l : ℕ) → w * y ≡ v * x → l ≡ k → v * (x * k) ≡ w * (y * l)
 far_plain v w x y k l e f = (let t : v * (x * k) ≡ (v * x) * k = omega arith in t) ∙ ap (λ n. n * k) (sym e) ∙ ap (λ n. (w * y) * n) (sym f) ∙ (let t : (w * y) * l ≡ w * (y * l) = omega arith in t)
 
+-- HOOKS FAR APART CHANGE PLACES
 pub hook_far : (delta p q r s : ℕ) (worth : (ℕ → ℕ) → ℕ) (mate : ℕ → ℕ) → IsMating mate → p ≢ q → p ≢ r → p ≢ s → q ≢ r → q ≢ s → r ≢ s →
     hook_worth delta p q (hook_worth delta r s worth) mate ≡ hook_worth delta r s (hook_worth delta p q worth) mate
 hook_far delta p q r s worth mate h d e f g i j =

@@ -206,7 +206,7 @@ module _ (node : Node) (inner points : List ℕ) (name mate : ℕ → ℕ) (term
     tells = box_tells;
   }
 
--- THE SUM OVER PATTERNS
+-- ---- each term of the box
 module _ (delta free : ℕ) (worth : List ℕ → ℕ) (node : Node) (inner points : List ℕ) (name : ℕ → ℕ) (steps : List Step) (node_ok : IsNode node) (behind : AreStepsBehind node inner points name steps) where
   abbrev nodes : List Node
   nodes = node ∷ step_nodes name steps
@@ -258,6 +258,7 @@ module _ (delta free : ℕ) (worth : List ℕ → ℕ) (node : Node) (inner poin
       ∙ ap₂ (λ n k. n + k) (ap₂ (λ n k. n * k) a.0 (one_term one.mate term (All-head (λ w. AreBoxed inner points name w.mate) one box b) a.1 same))
       (all_terms terms box a.2 (All-tail (λ w. AreBoxed inner points name w.mate) one box b) same)
 
+  -- THE SUM OVER PATTERNS
   pub box_pattern_sum : (box : List Weighted) → AreTermsOn node inner name node.terms box → All (λ one. AreBoxed inner points name one.mate) box →
       ((u : ℕ) → is_member ◌==◌ inner u ≡ true → is_member ◌==◌ points u ≡ true) →
       pattern_sum delta record { nodes = nodes; free_loops = free } open_names worth ≡ box_sum box here

@@ -153,6 +153,7 @@ row_have points x y v h place i j (suc count) m = (
   row_have points x y v h (place + 1) i (j + 1) count (λ k lo hi. m k (omega (arith, lo)) (omega (arith, hi))),
 )
 
+-- THE POINTS OF A GRID ARE THERE
 pub grid_have : (points : List ℕ) (x y : ℕ) (v h : ℕ → ℕ → ℕ) (place i rows columns : ℕ) → ((k : ℕ) → place ≤ k → k < place + rows + columns → is_member ◌==◌ points (top k) ≡ true) → HavePoints points (grid_steps x y v h place i rows columns)
 grid_have points x y v h place i zero columns m = tt
 grid_have points x y v h place i (suc rows) columns m =

@@ -1,4 +1,4 @@
--- The laws of networks of steps and words.
+-- The laws of networks of steps and words: what holds of sums over matings holds of the networks, by the sum over their states.
 use Rattle.std.proofs.Common.{◌≡◌, ℕ, ◌+◌, ◌*◌, ◌^◌, ◌%◌, ◌==◌, List, [], ◌∷◌, ◌++◌, refl, sym, ap, ap₂, ◌∙◌, arith, map, subst, append-nil, not}
 use Rattle.std.specs.Set.{is_member}
 use Rattle.graph_parts.proofs.Ends.{is_member-itself}
@@ -23,6 +23,7 @@ use Rattle.word_networks.proofs.Grids.{grid_is, grid_follows, grid_spells}
 use Rattle.word_networks.proofs.TurnedGrids.{grid_alike, grid_is_turned}
 use Rattle.word_networks.proofs.StepNetworks.{step_pattern_sum, pattern_agree}
 
+-- THE SUM OVER THE STATES OF A NETWORK OF STEPS
 pub step_sums : StepSumsLaw
 step_sums delta free points name mate steps worth are from = step_pattern_sum points name mate steps are from delta free worth
 
@@ -34,6 +35,7 @@ step_sum-worth delta (letter p q straight hook left right ∷ steps) f g h mate 
 step_sum-worth delta (pass p new ∷ steps) f g h mate = step_sum-worth delta steps f g h mate
 step_sum-worth delta (join p q ∷ steps) f g h mate = ap (λ y. loop_worth delta p q mate * y) (step_sum-worth delta steps f g h (hooked p q mate))
 
+-- STEPS THAT ARE ALIKE ARE ALIKE EVERYWHERE
 pub same_steps : SameStepsLaw
 same_steps m delta free points name mate steps others are from to left agree same =
     let open_names = map (names_after name others) (points_after points others) in
@@ -77,6 +79,7 @@ spelled_sum delta (first ∷ word) (pass p new ∷ steps) s worth mate = spelled
 spelled_sum delta [] (join p q ∷ steps) s worth mate = absurd s
 spelled_sum delta (first ∷ word) (join p q ∷ steps) s worth mate = absurd s
 
+-- AND WORDS THAT ARE
 pub same_words : SameWordsLaw
 same_words m delta free points name mate u v steps others same s t are from to agree =
     let a = spelled_points points u steps s in
@@ -86,12 +89,15 @@ same_words m delta free points name mate u v steps others same s t are from to a
     (λ worth. ap (λ n. n % m) (spelled_sum delta u steps s worth mate) ∙ same.at worth mate are.mating ∙ sym (ap (λ n. n % m) (spelled_sum delta v others t worth mate))))
 
 -- ---- grids
+-- A CROSSING OF BUNDLES IS STEPS
 pub grids_of_steps : GridsOfStepsLaw
 grids_of_steps x y v h name place rows columns f = record { nodes = grid_is x y v h name place 0 rows columns f; names = grid_follows x y v h name place 0 rows columns f }
 
+-- WHICH SPELL ITS WORD
 pub grid_words : GridWordsLaw
 grid_words a b s v h place rows columns = grid_spells a b s v h place 0 rows columns
 
+-- A CROSSING OF BUNDLES, TURNED BY A QUARTER
 pub turned_grids : TurnedGridsLaw
 turned_grids m delta free x y rows columns v h turned_v turned_h open_names front back is p q has =
     subst (λ ns. SameEverywhere m delta open_names record { nodes = front ++ (grid_nodes x y v h 0 rows columns ++ back); free_loops = free } record { nodes = front ++ (ns ++ back); free_loops = free })
@@ -99,12 +105,14 @@ turned_grids m delta free x y rows columns v h turned_v turned_h open_names fron
     ((grid_alike m delta free open_names x y v h rows columns front back p q).same has)
 
 -- ---- cabled crossings
+-- CABLED CROSSINGS ON ONE ANOTHER
 pub cabled_words : CabledWordsLaw
 cabled_words m a b delta free points name mate old new same f g are from to agree =
     subst (λ ns. SameEverywhere m delta (map (names_after name (placed_steps a b new)) points) record { nodes = ns; free_loops = free } record { nodes = placed_nodes a b new; free_loops = free }) (placed_are a b name old f)
     (subst (λ ns. SameEverywhere m delta (map (names_after name (placed_steps a b new)) points) record { nodes = step_nodes name (placed_steps a b old); free_loops = free } record { nodes = ns; free_loops = free }) (placed_are a b name new g)
     (same_words m delta free points name mate (placed_word a b old) (placed_word a b new) (placed_steps a b old) (placed_steps a b new) same (placed_spell a b old) (placed_spell a b new) are from to agree))
 
+-- THE THIRD MOVE
 pub cabled_third_move : CabledThirdMoveLaw
 cabled_third_move m a b delta free x y z s t u v1 h1 v2 h2 v3 h3 w1 k1 w2 k2 w3 k3 points name mate numbers e f g are from to agree =
     let old : List Placed =
@@ -121,6 +129,7 @@ cabled_third_move m a b delta free x y z s t u v1 h1 v2 h2 v3 h3 w1 k1 w2 k2 w3 
     (Rewriting.same (sym (three (grid a b u x y z) (grid a b t 0 x z) (grid a b s z x y))))))) in
     cabled_words m a b delta free points name mate old new word f g are from to agree
 
+-- THE SECOND MOVE
 pub cabled_second_move : CabledSecondMoveLaw
 cabled_second_move m a b delta free o u s v1 h1 v2 h2 new_name points name mate numbers f are from to agree =
     let old : List Placed = record { is_over = s; v = v1; h = h1; place = 0; rows = o; columns = u } ∷ record { is_over = not s; v = v2; h = h2; place = 0; rows = u; columns = o } ∷ [] in
@@ -131,6 +140,7 @@ cabled_second_move m a b delta free o u s v1 h1 v2 h2 new_name points name mate 
     (same_words m delta free points name mate (placed_word a b old) [] (placed_steps a b old) arcs word (placed_spell a b old) (passes_spell new_name 0 (o + u)) are from to agree)
 
 -- ---- boxes
+-- A BOX BEFORE STEPS
 pub box_steps : BoxStepsLaw
 box_steps delta free node box inner points name steps worth ok terms boxed within behind = box_pattern_sum delta free worth node inner points name steps ok behind box terms boxed within
 
@@ -143,6 +153,7 @@ word_sum-same delta [] f g h mate = h mate
 word_sum-same delta (first ∷ u) f g h mate =
     ap₂ (λ x y. first.straight * x + first.hook * (loop_worth delta (top first.at) (top (first.at + 1)) mate * y)) (word_sum-same delta u f g h mate) (word_sum-same delta u f g h (hooked (top first.at) (top (first.at + 1)) mate))
 
+-- THE CURL
 pub cabled_curl : CabledCurlLaw
 cabled_curl m a b delta w free n s v h node other box inner left points name worth numbers factor is_box ok terms boxed within behind other_ok other_terms other_boxed other_within other_behind =
     let steps = grid_steps (crossed a b s 0).straight (crossed a b s 0).hook v h 0 0 (n + 1) (n + 1) in

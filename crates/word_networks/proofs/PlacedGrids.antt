@@ -9,6 +9,7 @@ use Rattle.word_networks.specs.Spelling.{Spells}
 use Rattle.word_networks.specs.Steps.{Step, letter, pass, join, names_after, step_nodes, step_sum}
 use Rattle.word_networks.proofs.Grids.{grid_is, grid_spells, step_nodes-append, Spells-append}
 
+-- THEY ARE NETWORKS OF STEPS
 pub placed_are : (a b : ℕ) (name : ℕ → ℕ) (grids : List Placed) → FitAll a b name grids → step_nodes name (placed_steps a b grids) ≡ placed_nodes a b grids
 placed_are a b name [] f = refl
 placed_are a b name (g ∷ grids) f =
@@ -16,6 +17,7 @@ placed_are a b name (g ∷ grids) f =
     ∙ ap₂ (λ ns ms. ns ++ ms) (grid_is (crossed a b g.is_over g.place).straight (crossed a b g.is_over g.place).hook g.v g.h name g.place 0 g.rows g.columns f.0)
     (placed_are a b (names_after name (steps_at a b g)) grids f.1)
 
+-- WHICH SPELL THE WORD
 pub placed_spell : (a b : ℕ) (grids : List Placed) → Spells (placed_word a b grids) (placed_steps a b grids)
 placed_spell a b [] = tt
 placed_spell a b (g ∷ grids) =

@@ -87,6 +87,7 @@ module _ (l : ℕ → ℕ) (seen : List ℕ) (name : ℕ → ℕ) (points : List
   there : is_member ◌==◌ (new ∷ seen) (name p) ≡ true
   there = let m = s.known p mp in grind (arith, m)
 
+  -- GOING ON UNDER A NEW NAME
   pub State-pass : State (relabel l (name p, new)) (new ∷ seen) (named name p new) points mate
   State-pass =
       State-attached l (relabel l (name p, new)) seen name points mate p new s (World-edge l (new ∷ seen) (name p) new (World-appear l seen new s.world n) there here)
@@ -111,6 +112,7 @@ module _ (l : ℕ → ℕ) (seen : List ℕ) (name : ℕ → ℕ) (points : List
       let i = sym (is_member-without p q points u) ∙ m in
       (grind (arith, i), (λ t. grind (arith, nat_tests, i, t)), (λ t. grind (arith, nat_tests, i, t)))
 
+  -- TWO POINTS LESS
   pub State-join : State (relabel l (name p, name q)) seen name (without p q points) (hooked p q mate)
   State-join = record {
     world = World-edge l seen (name p) (name q) s.world (s.known p mp) (s.known q mq);
@@ -227,6 +229,7 @@ module _ (l : ℕ → ℕ) (seen : List ℕ) (name : ℕ → ℕ) (points : List
       plain seen left right x false true m = grind (arith, nat_tests)
       plain seen left right x false false m = grind (arith, m)
 
+  -- THE MATING BEHIND A HOOK
   pub State-hook : State after both names points (hooked p q mate)
   State-hook = record {
     world = World-edge joined both right left both_world (grind (arith, nat_tests)) (grind (arith, nat_tests));
@@ -254,6 +257,7 @@ module _ (l : ℕ → ℕ) (seen : List ℕ) (name : ℕ → ℕ) (points : List
       counted : (all j x y k : ℕ) (b c g : Bool) → j + cond b 0 1 ≡ k → x ≡ 1 + j → y ≡ 1 + x → all + cond g 0 1 ≡ y → g ≡ false → b ≡ c → all ≡ k + cond c 1 0
       counted all j x y k b c g p q r s t u = grind (arith, p, q, r, s, t, u)
 
+  -- A HOOK KEEPS THE NUMBER OF LABELS AT THE POINTS
   pub points_hook : label_count (λ u. after (names u)) points ≡ label_count (λ u. l (name u)) points
   points_hook =
       let new = hooked p q mate in

@@ -140,6 +140,7 @@ module _ (x y : ℕ) (v h turned_v turned_h : ℕ → ℕ → ℕ) (rows columns
       let ih = row_is_column i (j + 1) c count e (omega (arith, f)) in
       rw (south, east, north, west, ih)
 
+  -- THE TURNED GRID IS A GRID
   pub grid_is_turned : (i count : ℕ) → i + count ≡ columns → grid_nodes y x turned_v turned_h i count rows ≡ turned_grid x y v h rows count
   grid_is_turned i zero e = refl
   grid_is_turned i (suc count) e = ap₂ (λ ns ms. ns ++ ms) (row_is_column i 0 count rows (omega (arith, e)) (omega arith)) (grid_is_turned (i + 1) count (omega (arith, e)))
