@@ -12,6 +12,7 @@ pub mod PlaceTables
 pub mod FaceSteps
 pub mod Strands
 pub mod Crossings
+pub mod PlacesTold
 pub mod FewComponents
 pub mod FramingLemmas
 pub mod CrossingComponents

@@ -1,39 +1,20 @@
-use Rattle.std.proofs.Common.{◌≡◌, ◌<◌, ◌^◌, List, length, subst, ap, ◌∙◌, arith, rules}
-use Rattle.pd_reader.specs.declared.item.Item.{Item}
-use Rattle.planar_check.specs.Places.{crossings_of, place_labels}
-use Rattle.planar_check.specs.Planar.{face_of}
-use Rattle.planar_check.proofs.PlaceTables.{faces_all, face_at, face_within}
-use Rattle.planar_check.proofs.Crossings.{few_places}
+use Rattle.std.proofs.Common.{◌<◌, ◌^◌, arith, rules}
+use Rattle.planar_check.proofs.PlacesTold.{faces_there, face_told}
 use Rattle.planar_check.proofs.planar.Planar.face_of.Goals as goal
 
 pub index-requires : goal.index-requires
 index-requires c =
-    let within : c.args.place < length (place_labels c.self.inside.diagram) = (let same = ap (λ (items : List Item). length (place_labels items)) c.self.view_is in omega (arith, same, c.requires)) in
-    let long = faces_all (crossings_of c.self.inside.diagram) c.self.inside.places c.self.invariant.2 in
+    let there = faces_there c.self.view_is c.args.place c.requires c.self.inside.places c.self.invariant.2 in
     let kept = c.self.inside.places.faces.ok.0 in
-    omega (arith, within, long, kept)
+    omega (arith, there, kept)
 
 pub overflow_cast-result : goal.overflow_cast-result
 overflow_cast-result c =
-    let within : c.args.place < length (place_labels c.self.inside.diagram) = (let same = ap (λ (items : List Item). length (place_labels items)) c.self.view_is in omega (arith, same, c.requires)) in
-    let cs = crossings_of c.self.inside.diagram in
-    let is = c.index.ensures ∙ face_at cs c.self.inside.places c.self.invariant.2 c.args.place c.index.result.now within in
-    let below = face_within cs c.args.place within in
-    let few = few_places c.self.inside.diagram c.self.invariant.0 in
-    let small : c.index.result.now < 2 ^ 32 = omega (arith, is, below, few) in
+    let small : c.index.result.now < 2 ^ 32 = (face_told c.self.view_is c.args.place c.requires c.self.inside.places c.self.invariant.2 c.index.result.now c.index.ensures).small c.self.invariant.0 in
     search rules
 
 pub returns-clause-face : goal.returns-clause-face
-returns-clause-face c =
-    let within : c.args.place < length (place_labels c.self.inside.diagram) = (let same = ap (λ (items : List Item). length (place_labels items)) c.self.view_is in omega (arith, same, c.requires)) in
-    let P : List Item → Type 0 = λ items. c.index.result.now ≡ face_of (crossings_of items) c.args.place in
-    subst P c.self.view_is (c.index.ensures ∙ face_at (crossings_of c.self.inside.diagram) c.self.inside.places c.self.invariant.2 c.args.place c.index.result.now within)
+returns-clause-face c = (face_told c.self.view_is c.args.place c.requires c.self.inside.places c.self.invariant.2 c.index.result.now c.index.ensures).told
 
 pub returns-clause-in_range : goal.returns-clause-in_range
-returns-clause-in_range c =
-    let within : c.args.place < length (place_labels c.self.inside.diagram) = (let same = ap (λ (items : List Item). length (place_labels items)) c.self.view_is in omega (arith, same, c.requires)) in
-    let P : List Item → Type 0 = λ items. c.index.result.now < length (place_labels items) in
-    let cs = crossings_of c.self.inside.diagram in
-    let is = c.index.ensures ∙ face_at cs c.self.inside.places c.self.invariant.2 c.args.place c.index.result.now within in
-    let below = face_within cs c.args.place within in
-    subst P c.self.view_is (omega (arith, is, below))
+returns-clause-in_range c = (face_told c.self.view_is c.args.place c.requires c.self.inside.places c.self.invariant.2 c.index.result.now c.index.ensures).in_range
