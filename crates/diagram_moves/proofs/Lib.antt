@@ -1,0 +1,31 @@
+pub mod KeptStrands
+pub mod NoNumbers
+pub mod Nodes
+pub mod OtherTriangle
+pub mod BracketValues
+pub mod Paired
+pub mod Corners
+pub mod Undone
+pub mod Pulling
+pub mod Rewritten
+pub mod Triangles
+pub mod PlaceLemmas
+pub mod Pushing
+pub mod Curling
+pub mod Accepted
+pub mod PlainMoves
+pub mod PairedAgain
+pub mod Results
+pub mod PairedResults
+pub mod LeastLabelLists
+pub mod CutComponents
+pub mod PushedComponents
+pub mod CurledComponents
+pub mod ClosedComponents
+pub mod ComponentLaws
+pub mod FaceSteps
+pub mod FoundFaces
+pub mod DiagramResults
+pub mod ScriptLines
+mod Drawn
+mod Examples
