@@ -1,6 +1,4 @@
 -- What is known where a move is accepted.
---
--- Others cite: given_Ok, unless_Ok, finished_Ok, passing_test, low_pair, low_triple, low_slot.
 use Rattle.std.proofs.Common.{◌≡◌, ltb, ℕ, ◌<◌, ◌≤◌, Bool, true, false, cond, ◌&&◌, List, [], ◌∷◌, length, Option, Some, None, Ok, Err, refl, sym, ap, ◌∙◌, arith, ⊎_elim, All}
 use Rattle.std.specs.List.{find}
 use Rattle.std.proofs.lemmas.Bool.{cases_Bool, and_parts, ltb-true}

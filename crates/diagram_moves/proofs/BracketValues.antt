@@ -1,6 +1,4 @@
 -- The bracket as the value of nodes at the labels themselves: names and groups do not matter.
---
--- Others cite: bracket_value.
 use Rattle.std.proofs.Common.{◌≡◌, ℕ, ◌+◌, ◌*◌, ◌^◌, ◌%◌, List, [], ◌∷◌, ◌++◌, map, refl, sym, ap, ◌∙◌, arith, All}
 use Rattle.std.specs.List.{AllByRecursion}
 use Rattle.graph_parts.specs.Parts.{part_count}

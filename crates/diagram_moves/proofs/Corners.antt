@@ -1,6 +1,4 @@
 -- One, two or three crossings of a diagram at the front, each turned to a corner, and how often their labels stand.
---
--- Others cite: one_corner, two_corners, three_corners, one_times, two_times, three_times, same_crossing, turned_numbers.
 use Rattle.std.proofs.Common.{◌≡◌, ℕ, ◌+◌, ◌*◌, ◌%◌, ◌<◌, Bool, true, false, cond, ◌==◌, List, [], ◌∷◌, length, Some, refl, sym, ap, ◌∙◌, arith, All}
 use Rattle.std.specs.List.{AllByRecursion}
 use Rattle.std.specs.Set.{is_member}

@@ -1,6 +1,4 @@
 -- Curl and BlowUp multiply the value by their factors.
---
--- Others cite: curled_value, curled_loop_value, blown_value, and the sizes and counts of labels of each result.
 use Rattle.std.proofs.Common.{◌≡◌, ℕ, ◌+◌, ◌*◌, ◌^◌, ◌%◌, ◌<◌, ◌≤◌, Bool, true, false, cond, not, ◌||◌, ◌==◌, List, [], ◌∷◌, ◌++◌, map, length, slice_index, refl, sym, ap, ◌∙◌, arith, ⊎_elim, All, subst, append-nil, append_assoc}
 use Rattle.std.specs.List.{AllByRecursion, count_by}
 use Rattle.std.specs.Set.{is_member, unique_keys}

@@ -12,7 +12,6 @@ use Rattle.planar_check.specs.Planar.{face_count, wanted_faces, piece_count, edg
 use Rattle.skein_network.specs.Brackets.{loop_count}
 use Rattle.state_sums.specs.StateSums.{value}
 use Rattle.diagram_moves.proofs.Nodes.{nodes_of}
-use Rattle.diagram_moves.specs.InnerEdges.{inner_edges}
 use Rattle.planar_check.specs.Planar.{face_of}
 use Rattle.diagram_moves.specs.Moves.{Answer, move}
 use Rattle.diagram_moves.specs.Scripts.{played, by_move}
@@ -123,16 +122,6 @@ uncurled_value = refl
 
 too_many : move (map Loop (range_with_len 1 256)) (BlowUp signs.Plus) ≡ Err (TooMany 256)
 too_many = refl
-
--- ---- inner edges
-bigon_inside : inner_edges pushed_trefoil (R2Undo 4 5) ≡ 9 ∷ 7 ∷ []
-bigon_inside = refl
-
-triangle_inside : inner_edges with_triangle (R3 1 2 3) ≡ 4 ∷ 6 ∷ 5 ∷ []
-triangle_inside = refl
-
-curl_inside : inner_edges (x 4 3 2 5 ∷ x 6 5 1 1 ∷ x 3 4 6 2 ∷ []) (CurlUndo 2) ≡ 1 ∷ []
-curl_inside = refl
 
 -- a torus link of 256 crossings has no room for a curl
 no_room : move (torus_items 256) (Curl 1 signs.Minus) ≡ Err (TooMany 256)

@@ -14,18 +14,5 @@ pub mod Pushing
 pub mod Curling
 pub mod Accepted
 pub mod PlainMoves
-pub mod PairedAgain
-pub mod Results
-pub mod PairedResults
-pub mod LeastLabelLists
-pub mod CutComponents
-pub mod PushedComponents
-pub mod CurledComponents
-pub mod ClosedComponents
-pub mod ComponentLaws
-pub mod FaceSteps
-pub mod FoundFaces
-pub mod DiagramResults
-pub mod ScriptLines
 mod Drawn
 mod Examples

@@ -1,6 +1,4 @@
 -- The nodes of items, at weights a and b: crossings are taken to the front and turned.
---
--- Others cite: node, nodes_of, kept, corner, kept_none, IsNode-nodes, IsNode-kept, picked, picked_times, corner_value, times_corner.
 use Rattle.std.proofs.Common.{◌≡◌, ℕ, zero, suc, ◌+◌, ◌%◌, ◌<◌, true, false, cond, ◌==◌, List, [], ◌∷◌, ◌++◌, length, slice_index, Some, None, refl, sym, ap, ◌∙◌, arith, ⊎_elim, All, subst, append_assoc}
 use Rattle.std.specs.List.{AllByRecursion}
 use Rattle.std.specs.Set.{is_member}

@@ -1,6 +1,4 @@
 -- Labels that stand twice, at the crossings alone; and what is known of items that are written anew.
---
--- Others cite: paired, loop_once, member_of_times, sizes-append.
 use Rattle.std.proofs.Common.{◌≡◌, ℕ, ◌+◌, ◌*◌, ◌≤◌, true, false, cond, ◌==◌, List, [], ◌∷◌, ◌++◌, map, refl, sym, ◌∙◌, arith, ⊎_elim, subst}
 use Rattle.std.specs.List.{AllByRecursion}
 use Rattle.std.specs.Set.{is_member}

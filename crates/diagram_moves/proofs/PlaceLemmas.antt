@@ -1,7 +1,4 @@
 -- Labels by their places: the two places of a label, and labels that become new ones at single places.
---
--- Others cite: place_labels_are, second_place_of, mapped_back, sizes-at_places, loop_count-at_places, crossing_labels-at_places,
--- times_one_place, times_two_places, fresh_above.
 use Rattle.std.proofs.Common.{◌≡◌, ◌≢◌, ltb, ℕ, zero, suc, ◌+◌, ◌<◌, ◌≤◌, Bool, true, cond, not, ◌==◌, List, [], ◌∷◌, ◌++◌, map, length, slice_index, refl, Option, Some, None, unwrap_or, sym, ap, ◌∙◌, arith, ◌⊎◌, inl, inr, ⊎_elim, subst}
 use Rattle.std.specs.List.{AllByRecursion, AllPass, range_with_len}
 use Rattle.std.specs.Set.{is_member}

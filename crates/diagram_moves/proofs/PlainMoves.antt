@@ -1,6 +1,4 @@
 -- A move multiplies the bracket by its factor: each kind of step by its own file, put together here.
---
--- Others cite: plain_moves.
 use Rattle.std.proofs.Common.{◌≡◌, ◌≢◌, ltb, ℕ, ◌+◌, ◌*◌, ◌^◌, ◌%◌, ◌<◌, Bool, true, false, cond, not, ◌&&◌, ◌||◌, ◌==◌, pos, negsuc, List, [], ◌∷◌, ◌++◌, Some, Ok, sym, ap, ◌∙◌, arith, ⊎_elim, subst, append-nil}
 use Rattle.std.specs.List.{AllByRecursion, find}
 use Rattle.std.specs.Set.{is_member}

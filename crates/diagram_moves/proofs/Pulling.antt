@@ -1,6 +1,4 @@
 -- R2Undo and CurlUndo keep the value, or multiply it by the curl's factor.
---
--- Others cite: pulled_value, uncurled_value, open_2, open_4.
 use Rattle.std.proofs.Common.{◌≡◌, ℕ, suc, ◌+◌, ◌*◌, ◌%◌, ◌<◌, Bool, true, false, cond, not, ◌==◌, List, [], ◌∷◌, map, length, slice_index, Some, refl, sym, ap, ◌∙◌, arith, All}
 use Rattle.std.specs.List.{count_by, filter}
 use Rattle.std.specs.Set.{unique_keys}

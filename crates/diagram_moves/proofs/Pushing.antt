@@ -1,6 +1,4 @@
 -- R2 keeps the value: the two crossings are taken to the front, undone by arcs, and the arcs close to the old labels.
---
--- Others cite: pushed_value, pushed_times, sizes-pushed, fresh_total.
 use Rattle.std.proofs.Common.{◌≡◌, ◌≢◌, ℕ, ◌+◌, ◌*◌, ◌<◌, ◌≤◌, Bool, true, false, cond, not, ◌||◌, ◌==◌, List, [], ◌∷◌, ◌++◌, map, slice_index, refl, sym, ap, ◌∙◌, arith, ⊎_elim, All, subst, append-nil}
 use Rattle.std.specs.List.{AllByRecursion, count_by}
 use Rattle.std.specs.Set.{is_member, unique_keys}

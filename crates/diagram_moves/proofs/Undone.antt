@@ -1,6 +1,4 @@
 -- Crossings that go: their strands become classes of labels, by arcs that close.
---
--- Others cite: closed_value, paired_piece, least_contraction, sizes-removed.
 use Rattle.std.proofs.Common.{◌≡◌, ℕ, zero, suc, ◌+◌, ◌≤◌, Bool, true, false, cond, not, ◌==◌, min, max, List, [], ◌∷◌, ◌++◌, map, length, Contains, refl, sym, ap, ◌∙◌, arith, ⊎_elim, subst, append-nil}
 use Rattle.std.specs.List.{AllByRecursion, count_by, filter}
 use Rattle.std.specs.Set.{is_member, unique_keys}
