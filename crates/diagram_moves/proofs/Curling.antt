@@ -149,9 +149,6 @@ module _ (items : List Item) (pd : IsPairedDiagram items) (e : ℕ) (has : is_me
       let b = times_in-append (crossing_labels R) slots z in
       let c = slots_times z in let t = cut_total z in omega (arith, a, b, c, t)
 
-  pub curled_twice : (z : ℕ) → 1 ≤ times_in (crossing_labels after) z → times_in (crossing_labels after) z ≡ 2
-  curled_twice z h = let t = curled_times z in let two = fresh_total items pd z (new_two z) (two_old z) (two_most z) (omega (arith, t, h)) in omega (arith, t, two)
-
   -- ---- the arcs close
   abbrev pub label : ℕ → ℕ
   label z = cond (z == n || z == n + 1) e z

@@ -1,5 +1,5 @@
 -- Labels by their places: the two places of a label, and labels that become new ones at single places.
-use Rattle.std.proofs.Common.{◌≡◌, ◌≢◌, ltb, ℕ, zero, suc, ◌+◌, ◌<◌, ◌≤◌, Bool, true, cond, not, ◌==◌, List, [], ◌∷◌, ◌++◌, map, length, slice_index, refl, Option, Some, None, unwrap_or, sym, ap, ◌∙◌, arith, ◌⊎◌, inl, inr, ⊎_elim, subst}
+use Rattle.std.proofs.Common.{◌≡◌, ◌≢◌, ltb, ℕ, zero, suc, ◌+◌, ◌<◌, ◌≤◌, Bool, true, cond, not, ◌==◌, List, [], ◌∷◌, ◌++◌, map, length, slice_index, refl, Some, None, unwrap_or, sym, ap, ◌∙◌, arith, ◌⊎◌, inl, inr, ⊎_elim, subst}
 use Rattle.std.specs.List.{AllByRecursion, AllPass, range_with_len}
 use Rattle.std.specs.Set.{is_member}
 use Rattle.std.proofs.lemmas.Bool.{or_left, or_right, eq-eqb, eqb-true, cases_Bool, or_cases, and_parts, lt-ltb, ltb-true}
@@ -13,7 +13,7 @@ use Rattle.pd_reader.specs.declared.item.Item.TheVariants as item
 use Rattle.pd_reader.specs.Items.{HasItsSlots, item_labels}
 use Rattle.pd_reader.specs.Diagrams.{labels}
 use Rattle.planar_check.specs.Components.{greatest, rank}
-use Rattle.planar_check.specs.Places.{item_slots, labels_by_place, other_place, is_across, first_passing, crossings_of, place_labels}
+use Rattle.planar_check.specs.Places.{labels_by_place, other_place, is_across, first_passing, crossings_of, place_labels}
 use Rattle.skein_network.specs.Brackets.{loop_count}
 use Rattle.state_sums.specs.LocalSums.{rename}
 use Rattle.diagram_moves.specs.Rewriting.{crossing_labels, map_from, at_places, fresh}

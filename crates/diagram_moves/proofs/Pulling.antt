@@ -1,5 +1,5 @@
 -- R2Undo and CurlUndo keep the value, or multiply it by the curl's factor.
-use Rattle.std.proofs.Common.{◌≡◌, ℕ, suc, ◌+◌, ◌*◌, ◌%◌, ◌<◌, Bool, true, false, cond, not, ◌==◌, List, [], ◌∷◌, map, length, slice_index, Some, refl, sym, ap, ◌∙◌, arith, All}
+use Rattle.std.proofs.Common.{◌≡◌, ℕ, suc, ◌+◌, ◌*◌, ◌%◌, ◌<◌, Bool, true, false, cond, not, ◌==◌, List, [], ◌∷◌, map, length, slice_index, Some, refl, sym, ap, ◌∙◌, arith}
 use Rattle.std.specs.List.{count_by, filter}
 use Rattle.std.specs.Set.{unique_keys}
 use Rattle.std.proofs.lemmas.Bool.{eqb-true, and_parts}
@@ -9,7 +9,7 @@ use Rattle.graph_parts.specs.Walks.{along}
 use Rattle.pd_reader.specs.declared.item.Item.{Item}
 use Rattle.skein_network.specs.Brackets.{loop_count}
 use Rattle.state_sums.specs.LocalSums.{crossing, AreSkeinNumbers}
-use Rattle.state_sums.specs.Networks.{Node, IsNode, names_of}
+use Rattle.state_sums.specs.Networks.{Node, names_of}
 use Rattle.state_sums.specs.StateSums.{value}
 use Rattle.diagram_moves.specs.Rewriting.{slot, around, crossing_at, crossing_labels}
 use Rattle.diagram_moves.specs.Moves.{is_bigon, bigon_classes, is_curl, curl_classes, closing, removed, two_labels}
@@ -18,12 +18,8 @@ use Rattle.diagram_moves.proofs.Corners.{two_corners, two_times, one_corner, one
 use Rattle.diagram_moves.proofs.Nodes.{nodes_of, kept, IsNode-kept, V, corner, first_weight, second_weight}
 use Rattle.diagram_moves.proofs.Undone.{closed_value, paired_piece, least_contraction, four_four, all_one}
 use Rattle.list_lemmas.specs.Times.{times_in}
-use Rattle.piece_laws.specs.Corners.{bigon_corners, bigon_arcs}
-use Rattle.piece_laws.specs.Arcs.{arcs_of}
 use Rattle.graph_parts.specs.Ends.{ends_of}
-use Rattle.piece_laws.specs.Pieces.{IsPiece}
 use Rattle.piece_laws.proofs.PlainMoves.{bigon_anywhere, curl_anywhere}
-use Rattle.piece_laws.proofs.WrittenPieces.{AreNodes-from_test, IsPiece-from_test}
 use Rattle.list_lemmas.proofs.Times.{times_in-append}
 
 -- slots are counted on from 3 to 0
@@ -74,9 +70,6 @@ module _ (m delta a b : ℕ) (numbers : AreSkeinNumbers m a b delta) (items : Li
 
     second_turned : second_weight a b t ≡ first_weight a b k
     second_turned = ap (λ z. cond z b a) parity ∙ elim (k % 2 == 0) as (λ z. cond (not z) b a ≡ cond z a b) [ true ↦ refl | false ↦ refl ]
-
-    abbrev new_name : ℕ → ℕ
-    new_name = slice_index (slot here (s + 1) ∷ slot here (s + 2) ∷ slot there (t + 2) ∷ slot there (t + 3) ∷ x ∷ y ∷ [])
 
     here_is : corner a b k here ≡ crossing (first_weight a b k) (second_weight a b k) y x (slot here (s + 1)) (slot here (s + 2))
     here_is = same_crossing refl refl shared_y (wrapped here s 0 ∙ ap (slot here) (let e : s + 0 ≡ s = omega arith in e)) (wrapped here s 1) (wrapped here s 2)
@@ -155,9 +148,6 @@ module _ (m delta a b : ℕ) (numbers : AreSkeinNumbers m a b delta) (items : Li
 
     curls : slot here (s + 1) ≡ loop
     curls = sym (eqb-true (slot here s) (slot here (s + 1)) test)
-
-    abbrev curl_name : ℕ → ℕ
-    curl_name = slice_index (slot here (s + 2) ∷ slot here (s + 3) ∷ loop ∷ [])
 
     curl_is : corner a b s here ≡ crossing (first_weight a b s) (second_weight a b s) loop loop (slot here (s + 2)) (slot here (s + 3))
     curl_is = same_crossing refl refl refl curls refl refl

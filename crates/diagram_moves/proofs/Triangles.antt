@@ -1,5 +1,5 @@
 -- R3 keeps the value: three crossings round a triangle, one of whose strands lies above the others.
-use Rattle.std.proofs.Common.{◌≡◌, ℕ, zero, suc, ◌+◌, ◌-◌, ◌%◌, ◌<◌, true, false, cond, ◌==◌, List, [], ◌∷◌, length, slice_index, Some, refl, sym, ap, ◌∙◌, arith, inl, inr, ⊎_elim, subst, Contains}
+use Rattle.std.proofs.Common.{◌≡◌, ℕ, zero, suc, ◌+◌, ◌-◌, ◌%◌, ◌<◌, true, false, cond, ◌==◌, List, [], ◌∷◌, length, slice_index, Some, refl, sym, ap, ◌∙◌, arith, inl, inr}
 use Rattle.std.specs.List.{AllByRecursion}
 use Rattle.std.proofs.lemmas.Bool.{cases_Bool, eq-eqb}
 use Rattle.pd_reader.specs.declared.item.Item.{Item}
@@ -15,15 +15,9 @@ use Rattle.diagram_moves.proofs.Corners.{three_corners, three_times, same_crossi
 use Rattle.diagram_moves.proofs.Nodes.{nodes_of, kept, IsNode-kept, V, corner, first_weight, second_weight}
 use Rattle.diagram_moves.proofs.Rewritten.{crossing_from-rewritten, kept-rewritten, sizes-rewritten, loop_count-rewritten}
 use Rattle.diagram_moves.proofs.Undone.{paired_piece}
-use Rattle.graph_parts.specs.Walks.{Joined, along, back, stay}
-use Rattle.pd_reader.specs.Items.{item_labels}
-use Rattle.pd_reader.specs.Diagrams.{labels}
-use Rattle.diagram_moves.proofs.Paired.{times_labels, member_of_times}
-use Rattle.diagram_moves.proofs.Rewritten.{kept_strands-rewritten, loop_labels-rewritten}
 use Rattle.list_lemmas.specs.Times.{times_in}
 use Rattle.piece_laws.proofs.ThirdMove.{triangle_anywhere}
 use Rattle.diagram_moves.proofs.OtherTriangle.{other_triangle_anywhere}
-use Rattle.list_lemmas.proofs.Times.{times_of_member}
 
 -- ---- the slots of a moved crossing
 moved_is : (k : ℕ) → k < 8 → (w x y z : ℕ) → around k (around (4 - k % 4) (w ∷ x ∷ y ∷ z ∷ [])) ≡ w ∷ x ∷ y ∷ z ∷ []

@@ -1,18 +1,15 @@
--- The laws of moves.
-use Rattle.std.specs.Prelude.{◌≡◌, ◌≢◌, ◌↔◌, ℕ, ◌+◌, ◌-◌, ◌*◌, ◌%◌, ◌≤◌, List, [], ◌∷◌, ◌++◌, Some, Ok, ◌==◌, ◌&&◌, true, false}
+-- The law of moves: for all parameters, and every list of items whose crossings have four slots and whose labels stand twice; it asks for
+-- no planar diagram.
+use Rattle.std.specs.Prelude.{◌≡◌, ◌*◌, ◌%◌, List, Ok}
 use Rattle.std.specs.List.{AllByRecursion}
 use Rattle.root_quantum.specs.Parameters.{Parameters}
 use Rattle.pd_reader.specs.declared.item.Item.{Item}
 use Rattle.pd_reader.specs.Items.{item_labels, HasItsSlots}
-use Rattle.pd_reader.specs.Diagrams.{labels, times, IsDiagram}
-use Rattle.planar_check.specs.Components.{least_labels}
-use Rattle.planar_check.specs.Places.{item_slots, other_places, crossings_of, slots_after, place_labels}
+use Rattle.pd_reader.specs.Diagrams.{labels, times}
 use Rattle.skein_network.specs.Brackets.{bracket}
-use Rattle.diagram_moves.specs.Moves.{move, is_bigon, is_triangle}
-use Rattle.diagram_moves.specs.Rewriting.{slot, crossing_at, fresh}
-use Rattle.diagram_moves.specs.Steps.{Step, R2, R2Undo, R3, Curl, CurlUndo, BlowUp, Moved}
+use Rattle.diagram_moves.specs.Moves.{move}
+use Rattle.diagram_moves.specs.Steps.{Step, Moved}
 use Rattle.diagram_moves.specs.Values.{factor_value}
-use Rattle.planar_check.specs.Planar.{next_in_face}
 
 -- each crossing has four slots, and each label stands twice
 pub record IsPairedDiagram (items : List Item) : Type 0 where

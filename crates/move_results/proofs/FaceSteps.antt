@@ -9,7 +9,7 @@ use Rattle.std.proofs.lemmas.List.FromFn.{get_or-map-range_with_len}
 use Rattle.pd_reader.specs.declared.item.Item.{Item}
 use Rattle.pd_reader.specs.declared.item.Item.TheVariants as item
 use Rattle.pd_reader.specs.Items.{HasItsSlots}
-use Rattle.planar_check.specs.Places.{item_slots, other_place, other_places, is_across, first_passing, crossings_of, slot_after, slots_after, place_labels}
+use Rattle.planar_check.specs.Places.{other_place, other_places, is_across, first_passing, crossings_of, slot_after, slots_after, place_labels}
 use Rattle.move_results.specs.Laws.{FaceStepLaw, place}
 use Rattle.diagram_moves.specs.Rewriting.{slot, crossing_from, crossing_labels, map_from}
 use Rattle.diagram_moves.proofs.Nodes.{none_some}

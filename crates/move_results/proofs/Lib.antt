@@ -12,3 +12,4 @@ pub mod FaceSteps
 pub mod FoundFaces
 pub mod DiagramResults
 pub mod ScriptLines
+mod Examples

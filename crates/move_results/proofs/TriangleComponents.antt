@@ -1,20 +1,12 @@
 -- R3 keeps the components: before and after, the strands of the three crossings join the same labels.
-use Rattle.std.proofs.Common.{◌≡◌, ℕ, zero, suc, ◌+◌, ◌-◌, ◌%◌, ◌<◌, true, false, cond, ◌==◌, List, [], ◌∷◌, length, slice_index, Some, refl, sym, ap, ◌∙◌, arith, inl, inr, ⊎_elim, subst, Contains}
+use Rattle.std.proofs.Common.{◌≡◌, ℕ, ◌+◌, ◌<◌, false, ◌==◌, List, [], ◌∷◌, slice_index, Some, refl, sym, ap, arith, ⊎_elim, subst, Contains}
 use Rattle.std.specs.List.{AllByRecursion}
-use Rattle.std.proofs.lemmas.Bool.{cases_Bool, eq-eqb}
 use Rattle.pd_reader.specs.declared.item.Item.{Item}
 use Rattle.pd_reader.specs.Items.{HasItsSlots}
-use Rattle.skein_network.specs.Brackets.{loop_count}
-use Rattle.state_sums.specs.LocalSums.{crossing, AreSkeinNumbers}
-use Rattle.state_sums.specs.Networks.{Node, names_of}
-use Rattle.state_sums.specs.StateSums.{value}
+use Rattle.state_sums.specs.LocalSums.{AreSkeinNumbers}
 use Rattle.diagram_moves.specs.Rewriting.{slot, around, crossing_at, crossing_labels}
 use Rattle.diagram_moves.specs.Moves.{moved_slots, triangle_slots, triangle_rewritten}
 use Rattle.diagram_moves.specs.Laws.{IsPairedDiagram}
-use Rattle.diagram_moves.proofs.Corners.{three_corners, three_times, same_crossing}
-use Rattle.diagram_moves.proofs.Nodes.{nodes_of, kept, IsNode-kept, V, corner, first_weight, second_weight}
-use Rattle.diagram_moves.proofs.Rewritten.{crossing_from-rewritten, kept-rewritten, sizes-rewritten, loop_count-rewritten}
-use Rattle.diagram_moves.proofs.Undone.{paired_piece}
 use Rattle.graph_parts.specs.Walks.{Joined, along, back, stay}
 use Rattle.pd_reader.specs.Items.{item_labels}
 use Rattle.pd_reader.specs.Diagrams.{labels}
@@ -25,8 +17,6 @@ use Rattle.move_results.proofs.LeastLabelLists.{Contracts, least_labels_by, leas
 use Rattle.diagram_moves.proofs.Paired.{times_labels, member_of_times}
 use Rattle.diagram_moves.proofs.Rewritten.{kept_strands-rewritten, loop_labels-rewritten}
 use Rattle.list_lemmas.specs.Times.{times_in}
-use Rattle.piece_laws.proofs.ThirdMove.{triangle_anywhere}
-use Rattle.diagram_moves.proofs.OtherTriangle.{other_triangle_anywhere}
 use Rattle.list_lemmas.proofs.Times.{times_of_member}
 use Rattle.diagram_moves.proofs.Triangles as triangle
 
