@@ -29,14 +29,14 @@ use Rattle.cables.proofs.CableLaws.{cable_network}
 use Rattle.cables.proofs.LoopValues.{loop_law}
 
 -- ---- a loop more
-pub cable_append : (p : Parameters) (strands : Strands) (items : List NetItem) (standing : Standing) (label : ℕ) →
+cable_append : (p : Parameters) (strands : Strands) (items : List NetItem) (standing : Standing) (label : ℕ) →
     (group : ℕ) × (cable_nodes p strands standing (items ++ Loop label ∷ []) ≡ cable_nodes p strands standing items ++ loop_nodes strands group (strands.first label))
 cable_append p strands [] standing label = (standing.loop_group, append-nil (loop_nodes strands standing.loop_group (strands.first label)))
 cable_append p strands (item ∷ items) standing label =
     let r = cable_append p strands items (passed standing item) label in
     (r.0, ap (λ ns. item_nodes p strands standing item ++ ns) r.1 ∙ sym (append_assoc (item_nodes p strands standing item) (cable_nodes p strands (passed standing item) items) (loop_nodes strands r.0 (strands.first label))))
 
-pub loops_append : (strands : Strands) (items : List NetItem) (label : ℕ) → loop_count strands (items ++ Loop label ∷ []) ≡ loop_count strands items + loops_at (strands.first label)
+loops_append : (strands : Strands) (items : List NetItem) (label : ℕ) → loop_count strands (items ++ Loop label ∷ []) ≡ loop_count strands items + loops_at (strands.first label)
 loops_append strands [] label = omega arith
 loops_append strands (X slots ∷ items) label = loops_append strands items label
 loops_append strands (Y edges ∷ items) label = loops_append strands items label

@@ -19,7 +19,7 @@ three-times : (x : ℕ) (a b c : List ℕ) → times_in (((a ++ b) ++ c) ++ []) 
 three-times x a b c =
     let e = times_in-append ((a ++ b) ++ c) [] x in let f = times_in-append (a ++ b) c x in let g = times_in-append a b x in omega (arith, e, f, g)
 
-pub vertex-times : (group x : ℕ) (a b c : List ℕ) → times_in (names_of (vertex_cable group a b c)) x ≡ times_in a x + times_in b x + times_in c x
+vertex-times : (group x : ℕ) (a b c : List ℕ) → times_in (names_of (vertex_cable group a b c)) x ≡ times_in a x + times_in b x + times_in c x
 vertex-times group x [] [] [] = refl
 vertex-times group x [] [] (z ∷ c) = let e = times_in-append (z ∷ c) [] x in omega (arith, e)
 vertex-times group x [] (y ∷ b) [] = three-times x [] (y ∷ b) []

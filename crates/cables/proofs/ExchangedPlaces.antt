@@ -21,7 +21,7 @@ use Rattle.cables.proofs.SameCables.{AreAlike, same_cable}
 use Rattle.cables.proofs.CableLaws.{cable_network}
 
 -- the k-th name, where k is i
-pub ranged : (f : ℕ → ℕ) (n k : ℕ) → k < n → slice_index (map f (range_with_len 0 n)) k ≡ f k
+ranged : (f : ℕ → ℕ) (n k : ℕ) → k < n → slice_index (map f (range_with_len 0 n)) k ≡ f k
 ranged f n k h =
     let long = length-range_with_len 0 n in
     let z : 0 + k ≡ k = omega arith in
@@ -134,7 +134,7 @@ module _ (colour : ℕ → ℕ) (boxed chosen : ℕ → Bool) (few : (label : �
       ∙ turn_chosen l (colour l - 1 - i) (flip l c) l_low (omega (arith, hi)) (flip-le l c c_low) h
       ∙ (let f = flip_twice l c c_low in omega (arith, f, hi, whole)))
 
-  pub turn_apart : (u v : ℕ) → turn u ≡ turn v → u ≡ v
+  turn_apart : (u v : ℕ) → turn u ≡ turn v → u ≡ v
   turn_apart u v e = sym (turn_twice u) ∙ ap turn e ∙ turn_twice v
 
   module _ (box : ℕ → List Term) where

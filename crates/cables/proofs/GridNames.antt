@@ -18,7 +18,7 @@ four-times x b e t w ns =
     omega (arith, k, l, m, n)
 
 module _ (p : Parameters) (group x : ℕ) where
-  pub row-times : (inner bottoms tops : List ℕ) (west east : ℕ) → length bottoms ≡ length inner + 1 → length tops ≡ length inner + 1 →
+  row-times : (inner bottoms tops : List ℕ) (west east : ℕ) → length bottoms ≡ length inner + 1 → length tops ≡ length inner + 1 →
       times_in (names_of (row p group bottoms west (inner ++ east ∷ []) tops)) x ≡ times_in bottoms x + at x west + 2 * times_in inner x + at x east + times_in tops x
   row-times [] (b ∷ []) (t ∷ []) west east h k =
       let n = four-times x b east t west [] in let i = times_in-cons b [] x in let j = times_in-cons t [] x in omega (arith, n, i, j)
@@ -47,7 +47,7 @@ upright_length : (k u i : ℕ) → length (upright_names k u i) ≡ u
 upright_length k u i = length-map-range_with_len (λ j. 2 ^ 25 + 128 * k + 8 * i + j) 0 u
 
 module _ (p : Parameters) (group k u x : ℕ) (some : 1 ≤ u) where
-  pub grid-times : (i : ℕ) (bottoms wests easts north : List ℕ) → length bottoms ≡ u → length north ≡ u → length wests ≡ length easts → 1 ≤ length easts →
+  grid-times : (i : ℕ) (bottoms wests easts north : List ℕ) → length bottoms ≡ u → length north ≡ u → length wests ≡ length easts → 1 ≤ length easts →
       times_in (names_of (grid p group k u i bottoms wests easts north)) x
       ≡ times_in bottoms x + times_in wests x + times_in easts x + times_in north x + 2 * inner_times k u i (length easts) x
   grid-times i bottoms wests [] north hb hn hw he = absurd (omega (arith, he))

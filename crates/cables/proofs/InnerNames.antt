@@ -99,12 +99,12 @@ module _ (k u x : ℕ) (few : u ≤ 8) where
       (λ s. let r = uprights_range n 0 (omega (arith, b)) s in let r0 = r.0 in let r1 = r.1 in (omega (arith, r0), omega (arith, r1)))
       (some_or_none (uprights 0 n))
 
-pub inner_once : (k u o x : ℕ) → u ≤ 8 → o ≤ 8 → crossing_inner k u o x ≤ 1
+inner_once : (k u o x : ℕ) → u ≤ 8 → o ≤ 8 → crossing_inner k u o x ≤ 1
 inner_once k zero o x a b = omega arith
 inner_once k (suc u) zero x a b = omega arith
 inner_once k (suc u) (suc o) x a b = rows_once k (suc u) x a (suc o) b
 
-pub inner_range : (k u o x : ℕ) → u ≤ 8 → o ≤ 8 → 1 ≤ crossing_inner k u o x → (2 ^ 25 + 128 * k ≤ x) × (x < 2 ^ 25 + 128 * k + 128)
+inner_range : (k u o x : ℕ) → u ≤ 8 → o ≤ 8 → 1 ≤ crossing_inner k u o x → (2 ^ 25 + 128 * k ≤ x) × (x < 2 ^ 25 + 128 * k + 128)
 inner_range k zero o x a b h = absurd (omega (arith, h))
 inner_range k (suc u) zero x a b h = absurd (omega (arith, h))
 inner_range k (suc u) (suc o) x a b h = rows_range k (suc u) x a (suc o) b h

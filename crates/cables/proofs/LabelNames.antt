@@ -49,7 +49,7 @@ loops_of l (X slots ∷ items) = loops_of l items
 loops_of l (Y edges ∷ items) = loops_of l items
 loops_of l (Loop label ∷ items) = at l label + loops_of l items
 
-pub labels-times : (l : ℕ) (items : List NetItem) → times_in (labels net_item_labels items) l ≡ times_in (places items) l + 2 * loops_of l items
+labels-times : (l : ℕ) (items : List NetItem) → times_in (labels net_item_labels items) l ≡ times_in (places items) l + 2 * loops_of l items
 labels-times l [] = refl
 labels-times l (X slots ∷ items) = let ih = labels-times l items in let e = times_in-append slots (labels net_item_labels items) l in let f = times_in-append slots (places items) l in omega (arith, ih, e, f)
 labels-times l (Y edges ∷ items) = let ih = labels-times l items in let e = times_in-append edges (labels net_item_labels items) l in let f = times_in-append edges (places items) l in omega (arith, ih, e, f)
@@ -85,7 +85,7 @@ module _ (strands : Strands) (x l : ℕ) (only : OnlyLabel strands x l) where
     | false ↦ omega (arith, e)
   ])
 
-  pub seen_boxes : (items : List NetItem) (seen : List ℕ) → is_member ◌==◌ seen l ≡ true → box_total strands x l seen items ≡ 0
+  seen_boxes : (items : List NetItem) (seen : List ℕ) → is_member ◌==◌ seen l ≡ true → box_total strands x l seen items ≡ 0
   seen_boxes [] seen h = refl
   seen_boxes (X slots ∷ items) seen h = seen_step slots seen _ h (seen_boxes items (reverse slots ++ seen) (both slots seen ∙ or_right (is_member ◌==◌ slots l) (is_member ◌==◌ seen l) h))
   seen_boxes (Y slots ∷ items) seen h = seen_step slots seen _ h (seen_boxes items (reverse slots ++ seen) (both slots seen ∙ or_right (is_member ◌==◌ slots l) (is_member ◌==◌ seen l) h))
@@ -99,7 +99,7 @@ module _ (strands : Strands) (x l : ℕ) (only : OnlyLabel strands x l) where
       cond (is_member ◌==◌ slots l && (strands.boxed l && not (is_member ◌==◌ seen l))) two 0 + n ≡ m
   later slots seen n m t e = rw t (omega (arith, e))
 
-  pub new_boxes : (items : List NetItem) (seen : List ℕ) → is_member ◌==◌ seen l ≡ false → 1 ≤ times_in (places items) l → box_total strands x l seen items ≡ cond (strands.boxed l) two 0
+  new_boxes : (items : List NetItem) (seen : List ℕ) → is_member ◌==◌ seen l ≡ false → 1 ≤ times_in (places items) l → box_total strands x l seen items ≡ cond (strands.boxed l) two 0
   new_boxes [] seen h k = absurd (omega (arith, k))
   new_boxes (X slots ∷ items) seen h k =
       ⊎_elim
@@ -148,7 +148,7 @@ module _ (strands : Strands) (x l : ℕ) (only : OnlyLabel strands x l) where
   once-le (y ∷ []) = omega arith
   once-le (y ∷ z ∷ names) = omega arith
 
-  pub loops_are : (items : List NetItem) → (n : ℕ) × ((loop_total strands x items ≡ 2 * n) × (n ≤ loops_of l items * first_times strands x l))
+  loops_are : (items : List NetItem) → (n : ℕ) × ((loop_total strands x items ≡ 2 * n) × (n ≤ loops_of l items * first_times strands x l))
   loops_are [] = (0, (refl, omega arith))
   loops_are (X slots ∷ items) = loops_are items
   loops_are (Y edges ∷ items) = loops_are items

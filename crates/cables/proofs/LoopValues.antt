@@ -23,7 +23,7 @@ box_closed : (m d n group label : ℕ) (f : List Term) → IsElement m n f →
     value m d record { nodes = box_node group f (first_names n label) (reverse (first_names n label)) ∷ []; free_loops = 0 } ≡ close m d n f
 box_closed m d n group label f e = closed_box m d n group f (λ i. 16 * label + 2 * i) e (λ i j hi hj same. omega (arith, same))
 
-pub loop_below : (p : Parameters) → loop_value p < p.modulus
+loop_below : (p : Parameters) → loop_value p < p.modulus
 unfolding loop_value
 loop_below p = residue_below p.modulus _ (let h = p.meets.modulus.0 in omega (arith, h))
 

@@ -1,8 +1,7 @@
--- How often a name stands in a list.
+-- How often a name stands in a reversed list, over nodes, and in a run of names that a function gives to numbers in a row: at most once.
 use Rattle.std.proofs.Common.{◌≡◌, ℕ, zero, suc, ◌+◌, ◌<◌, ◌≤◌, ◌==◌, true, false, cond, List, ◌++◌, map, reverse, refl, sym, ap, ◌∙◌, arith, inl, inr}
 use Rattle.std.specs.List.{range_with_len}
 use Rattle.std.proofs.lemmas.Bool.{cases_Bool, eqb-true}
-use Rattle.std.proofs.lemmas.Bool.Decides.{nat_tests}
 use Rattle.std.proofs.lemmas.List.Concat.{flat_map-append}
 use Rattle.std.proofs.lemmas.List.Sorted.{IsPermutation-reverse, sum_by-IsPermutation}
 use Rattle.state_sums.specs.Networks.{Node, names_of}
@@ -16,11 +15,8 @@ at x y = cond (x == y) 1 0
 pub times-reverse : (x : ℕ) (ys : List ℕ) → times_in (reverse ys) x ≡ times_in ys x
 times-reverse x ys = sum_by-IsPermutation (at x) ys (reverse ys) (IsPermutation-reverse ys)
 
-pub at-le : (x y : ℕ) → at x y ≤ 1
+at-le : (x y : ℕ) → at x y ≤ 1
 at-le x y = elim (x == y) as (λ b. cond b 1 0 ≤ 1) [ true ↦ omega arith | false ↦ omega arith ]
-
-pub at-found : (x y : ℕ) → 1 ≤ at x y → x ≡ y
-at-found x y h = grind (arith, nat_tests, h)
 
 -- the names of nodes, one list after the other
 pub times_of-append : (x : ℕ) (ns ms : List Node) → times_in (names_of (ns ++ ms)) x ≡ times_in (names_of ns) x + times_in (names_of ms) x

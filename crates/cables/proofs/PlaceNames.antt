@@ -49,7 +49,7 @@ module _ (strands : Strands) (x : ℕ) where
     at_other seen label h =
         ⊎_elim (λ t. at_second seen label t ∙ (only label h).1) (λ t. at_first seen label t ∙ (only label h).0) (cases_Bool (is_member ◌==◌ seen label))
 
-    pub seen_sum : (labels seen : List ℕ) → is_member ◌==◌ seen l ≡ true → place_sum seen labels ≡ times_in labels l * second_times l
+    seen_sum : (labels seen : List ℕ) → is_member ◌==◌ seen l ≡ true → place_sum seen labels ≡ times_in labels l * second_times l
     seen_sum [] seen h = omega arith
     seen_sum (y ∷ labels) seen h =
         let ih = seen_sum labels (y ∷ seen) (or_right (l == y) (is_member ◌==◌ seen l) h) in

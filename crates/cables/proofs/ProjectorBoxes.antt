@@ -25,7 +25,7 @@ is_element m delta inverse (suc (suc n)) h =
     subst (λ k. IsElement m k (projector m delta inverse (suc (suc n)))) s
     (IsElement-add m (n + 2) wide (scaled m (n + 2) c (multiply m delta (n + 2) (multiply m delta (n + 2) wide (hook m (n + 2) (n + 1))) wide)) h)
 
-pub found_element : (p : Parameters) (n : ℕ) → IsElement p.modulus n (projector_of p n)
+found_element : (p : Parameters) (n : ℕ) → IsElement p.modulus n (projector_of p n)
 unfolding found_projector
 found_element p n = is_element p.modulus (loop_value p) (λ k. inverse_of p.modulus (quantum_residue p.modulus (loop_value p) k)) n (let h = p.meets.modulus.0 in omega (arith, h))
 

@@ -36,7 +36,7 @@ moved_all r f g h (x ∷ xs) = ap₂ (λ y ys. y ∷ ys) (h x) (moved_all r f g 
 abbrev Moves : (ℕ → ℕ) → ℕ → ℕ → Type 0
 Moves r k k' = (offset : ℕ) → r (2 ^ 25 + 128 * k + offset) ≡ 2 ^ 25 + 128 * k' + offset
 
-pub next_moves : (r : ℕ → ℕ) (k k' : ℕ) → Moves r k k' → Moves r (k + 1) (k' + 1)
+next_moves : (r : ℕ → ℕ) (k k' : ℕ) → Moves r k k' → Moves r (k + 1) (k' + 1)
 next_moves r k k' moves o =
     let a : 2 ^ 25 + 128 * (k + 1) + o ≡ 2 ^ 25 + 128 * k + (128 + o) = omega arith in
     let b : 2 ^ 25 + 128 * k' + (128 + o) ≡ 2 ^ 25 + 128 * (k' + 1) + o = omega arith in

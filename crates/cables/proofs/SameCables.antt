@@ -107,14 +107,14 @@ module _ (strands others : Strands) (same_box : strands.box ≡ others.box) wher
   same_item p standing (Y (a ∷ b ∷ c ∷ d ∷ edges)) h = refl
   same_item p standing (Loop label) h = same_loop standing.loop_group (strands.first label) ∙ ap (loop_nodes others standing.loop_group) h.0.first
 
-  pub same_nodes : (p : Parameters) (items : List NetItem) (standing : Standing) → AllByRecursion (AreAlike strands others) (labels net_item_labels items) →
+  same_nodes : (p : Parameters) (items : List NetItem) (standing : Standing) → AllByRecursion (AreAlike strands others) (labels net_item_labels items) →
       cable_nodes p strands standing items ≡ cable_nodes p others standing items
   same_nodes p [] standing h = refl
   same_nodes p (item ∷ items) standing h =
       ap₂ (λ x y. x ++ y) (same_item p standing item (all_front (AreAlike strands others) (net_item_labels item) (labels net_item_labels items) h))
       (same_nodes p items (passed standing item) (all_back (AreAlike strands others) (net_item_labels item) (labels net_item_labels items) h))
 
-  pub same_loops : (items : List NetItem) → AllByRecursion (AreAlike strands others) (labels net_item_labels items) → loop_count strands items ≡ loop_count others items
+  same_loops : (items : List NetItem) → AllByRecursion (AreAlike strands others) (labels net_item_labels items) → loop_count strands items ≡ loop_count others items
   same_loops [] h = refl
   same_loops (X slots ∷ items) h = same_loops items (all_back (AreAlike strands others) slots (labels net_item_labels items) h)
   same_loops (Y slots ∷ items) h = same_loops items (all_back (AreAlike strands others) slots (labels net_item_labels items) h)

@@ -109,7 +109,7 @@ module _ (items : List Item) (label : ℕ) (sizes : AllByRecursion HasItsSlots i
       ap (λ xs. is_member ◌==◌ xs label) labels-added ∙ is_member-append ls (label ∷ label ∷ []) label
       ∙ or_right (is_member ◌==◌ ls label) (is_member ◌==◌ (label ∷ label ∷ []) label) (or_left (label == label) (label == label || false) (eq-eqb label label refl))
 
-  pub component_least-last : component_least added label ≡ label
+  component_least-last : component_least added label ≡ label
   unfolding component_least
   component_least-last =
       ap (λ es. least_name (labels item_labels added) es label) edges-added
@@ -117,7 +117,7 @@ module _ (items : List Item) (label : ℕ) (sizes : AllByRecursion HasItsSlots i
       ∙ past_label (strand_edges items) label (λ x. x)
       (strands_inside (λ x. nat_le (x + 1) label) items sizes (λ x m. let b = below x m in grind (arith, nat_tests, b))) refl (λ x h. h)
 
-  pub least_at_most : (x : ℕ) → is_member ◌==◌ ls x ≡ true → component_least items x ≤ x
+  least_at_most : (x : ℕ) → is_member ◌==◌ ls x ≡ true → component_least items x ≤ x
   unfolding component_least
   least_at_most x m =
       let e = least_name-label ls (strand_edges items) inside x m in

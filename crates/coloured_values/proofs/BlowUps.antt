@@ -154,7 +154,7 @@ pub blown_up_matrix : BlownUpMatrixLaw
 blown_up_matrix diagram label e is_diagram count new = λ k i j. entry_is diagram label e is_diagram count new i j k
 
 -- ---- the counts
-pub counts : (diagram : FramedDiagram) (label : ℕ) (e : ℤ) → IsDiagram diagram.items → length diagram.framings ≡ component_count diagram → IsAddedLabel diagram.items label →
+counts : (diagram : FramedDiagram) (label : ℕ) (e : ℤ) → IsDiagram diagram.items → length diagram.framings ≡ component_count diagram → IsAddedLabel diagram.items label →
     (plus_count (blown_up diagram label e) ≡ plus_count diagram + (if is_positive e then 1 else 0)) × (minus_count (blown_up diagram label e) ≡ minus_count diagram + (if is_negative e then 1 else 0))
 counts diagram label e is_diagram count new =
     let n = component_count diagram in

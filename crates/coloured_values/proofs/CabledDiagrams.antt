@@ -28,7 +28,7 @@ labels-as_net [] = refl
 labels-as_net (X slots ∷ items) = ap (λ ls. slots ++ ls) (labels-as_net items)
 labels-as_net (Loop label ∷ items) = ap (λ ls. label ∷ label ∷ ls) (labels-as_net items)
 
-pub length-as_net : (items : List Item) → length (as_net items) ≡ length items
+length-as_net : (items : List Item) → length (as_net items) ≡ length items
 length-as_net [] = refl
 length-as_net (item ∷ items) = ap suc (length-as_net items)
 
@@ -99,7 +99,7 @@ module _ (strands : Strands) where
         h x y e (or_right (x == label) (is_member ◌==◌ (label ∷ ls) x) (or_right (x == label) (is_member ◌==◌ ls x) mx)) (or_right (y == label) (is_member ◌==◌ (label ∷ ls) y) (or_right (y == label) (is_member ◌==◌ ls y) my))),
   )
 
-pub diagram_fits : (p : Parameters) (items : List Item) (colours : List ℕ) → AllByRecursion HasItsSlots items → AllByRecursion (Fits (diagram_strands p items colours)) (as_net items)
+diagram_fits : (p : Parameters) (items : List Item) (colours : List ℕ) → AllByRecursion HasItsSlots items → AllByRecursion (Fits (diagram_strands p items colours)) (as_net items)
 diagram_fits p items colours sizes =
     let n = colour_of items colours in
     let b = is_boxed items colours in

@@ -38,7 +38,7 @@ each_label : (P : ℕ → Type 0) (ls : List ℕ) → ((x : ℕ) → is_member �
 each_label P [] h = tt
 each_label P (x ∷ ls) h = (h x (or_left (x == x) (is_member ◌==◌ ls x) (eq-eqb x x refl)), each_label P ls (λ y m. h y (or_right (y == x) (is_member ◌==◌ ls y) m)))
 
-pub all_labels : (P : ℕ → Type 0) (items : List Item) → ((x : ℕ) → is_member ◌==◌ (labels item_labels items) x ≡ true → P x) → AllByRecursion P (labels net_item_labels (as_net items))
+all_labels : (P : ℕ → Type 0) (items : List Item) → ((x : ℕ) → is_member ◌==◌ (labels item_labels items) x ≡ true → P x) → AllByRecursion P (labels net_item_labels (as_net items))
 all_labels P items h = subst (AllByRecursion P) (sym (labels-as_net items)) (each_label P (labels item_labels items) h)
 
 one_entry : (colours : List ℕ) → AllByRecursion (λ colour. colour ≡ 1) colours → (i : ℕ) → i < length colours → slice_index colours i ≡ 1
@@ -75,14 +75,14 @@ module _ (items : List Item) (colours : List ℕ) (label n : ℕ) (sizes : AllBy
   more = colours ++ n ∷ []
 
   -- the colours of the labels stay, and the new one has the last
-  pub colour-added : (x : ℕ) → is_member ◌==◌ (labels item_labels items) x ≡ true → colour_of added more x ≡ colour_of items colours x
+  colour-added : (x : ℕ) → is_member ◌==◌ (labels item_labels items) x ≡ true → colour_of added more x ≡ colour_of items colours x
   colour-added x m =
       let some = number_first items sizes x m in
       let most = number_last items x in
       ap (λ k. slice_index more (k - 1)) (number_of-added items label sizes past x m)
       ∙ get_or_append_left colours (n ∷ []) 0 (number_of items x - 1) (omega (arith, some, most, count))
 
-  pub colour-last : colour_of added more label ≡ n
+  colour-last : colour_of added more label ≡ n
   colour-last =
       ap (λ k. slice_index more (k - 1)) (number_of-last items label sizes past)
       ∙ get_or-append_right colours (n ∷ []) (length (least_labels items)) (length (least_labels items) + 1 - 1) 0 count (omega arith)
@@ -91,7 +91,7 @@ module _ (items : List Item) (colours : List ℕ) (label n : ℕ) (sizes : AllBy
   boxed-added : (x : ℕ) → is_member ◌==◌ (labels item_labels items) x ≡ true → is_boxed added more x ≡ is_boxed items colours x
   boxed-added x m = ap₂ (λ k l. nat_le 2 k && l == x) (colour-added x m) (component_least-added items label sizes past x m)
 
-  pub alike-added : (p : Parameters) → AllByRecursion (AreAlike (diagram_strands p added more) (diagram_strands p items colours)) (labels net_item_labels (as_net items))
+  alike-added : (p : Parameters) → AllByRecursion (AreAlike (diagram_strands p added more) (diagram_strands p items colours)) (labels net_item_labels (as_net items))
   alike-added p =
       all_labels (AreAlike (diagram_strands p added more) (diagram_strands p items colours)) items (λ x m.
       record {

@@ -1,21 +1,23 @@
 -- Values, computed: m = 41, A = 2, r = 5, in the full and in the even form.
-use Rattle.std.proofs.Common.{◌≡◌, None, [], ◌∷◌, map, pos, negsuc, refl}
+use Rattle.std.proofs.Common.{◌≡◌, ℕ, List, None, [], ◌∷◌, map, pos, negsuc, refl}
 use Rattle.graph_parts.specs.Parts.{part, part_count}
 use Rattle.graph_parts.specs.LeastNames.{least_name}
 use Rattle.ring_identities.specs.Residues.{residue}
 use Rattle.ring_identities.specs.Powers.{power, signed_power, order_up_to}
+use Rattle.state_sums.specs.Networks.{Node}
 use Rattle.state_sums.specs.StateSums.{value}
 use Rattle.root_quantum.specs.Parameters.{Parameters}
 use Rattle.root_quantum.specs.declared.form.Form.TheVariants.{All, Even}
 use Rattle.root_quantum.specs.Refusals.{refusal}
 use Rattle.root_quantum.specs.QuantumNumbers.{loop_value, inverse_root, quantum_number, delta, twist, twist_factor}
 use Rattle.root_quantum.proofs.RefusalProofs.{accepted_law}
+use Rattle.pd_reader.specs.declared.item.Item.{Item}
 use Rattle.pd_reader.specs.declared.item.Item.TheVariants.{X, Loop}
 use Rattle.planar_check.specs.Places.{other_place}
 use Rattle.planar_check.specs.Components.{component_least, least_labels}
 use Rattle.planar_check.specs.Signs.{walk_of, signed_crossings}
 use Rattle.strand_algebra.specs.Projectors.{projector, inverse_of, found_projector}
-use Rattle.coloured_values.specs.Coloured.{coloured, framed}
+use Rattle.coloured_values.specs.Coloured.{cabled, coloured, framed}
 use Rattle.coloured_values.specs.Surgery.{kirby, omega_sum, surgery}
 use Rattle.inertia_laws.specs.Fractions.{reduce, gcd}
 
@@ -42,6 +44,34 @@ unknot_two = refl
 curl_two : coloured worked (X (1 ∷ 1 ∷ 2 ∷ 2 ∷ []) ∷ []) (2 ∷ []) ≡ 22
 unfolding coloured value part_count part worked loop_value inverse_root power residue found_projector projector quantum_number inverse_of least_labels component_least least_name
 curl_two = refl
+
+-- the Hopf link, whose components are 1,4 and 2,3
+abbrev hopf : List Item
+hopf = X (2 ∷ 4 ∷ 3 ∷ 1 ∷ []) ∷ X (4 ∷ 2 ∷ 1 ∷ 3 ∷ []) ∷ []
+
+abbrev ends_of : Node → List ℕ
+ends_of node = node.ends
+
+-- with the colours 2 and 2: a box on each component's least label, and two grids
+hopf_two : map ends_of (cabled worked hopf (2 ∷ 2 ∷ [])).nodes
+    ≡ (16 ∷ 18 ∷ 19 ∷ 17 ∷ [])
+    ∷ (32 ∷ 34 ∷ 35 ∷ 33 ∷ [])
+    ∷ (32 ∷ 33554496 ∷ 33554432 ∷ 18 ∷ [])
+    ∷ (34 ∷ 64 ∷ 33554433 ∷ 33554496 ∷ [])
+    ∷ (33554432 ∷ 33554504 ∷ 50 ∷ 16 ∷ [])
+    ∷ (33554433 ∷ 66 ∷ 48 ∷ 33554504 ∷ [])
+    ∷ (66 ∷ 33554624 ∷ 33554560 ∷ 48 ∷ [])
+    ∷ (64 ∷ 35 ∷ 33554561 ∷ 33554624 ∷ [])
+    ∷ (33554560 ∷ 33554632 ∷ 17 ∷ 50 ∷ [])
+    ∷ (33554561 ∷ 33 ∷ 19 ∷ 33554632 ∷ [])
+    ∷ []
+unfolding least_labels component_least least_name part
+hopf_two = refl
+
+-- with the colours 0 and 2: the second component's box, and strands that go straight through
+hopf_none : map ends_of (cabled worked hopf (0 ∷ 2 ∷ [])).nodes ≡ (32 ∷ 34 ∷ 35 ∷ 33 ∷ []) ∷ (32 ∷ 34 ∷ 48 ∷ 50 ∷ []) ∷ (35 ∷ 33 ∷ 50 ∷ 48 ∷ []) ∷ []
+unfolding least_labels component_least least_name part
+hopf_none = refl
 
 -- the trefoil of colour 1, framed -1: 10 times mu_1^2, and mu_1 is 33
 trefoil_framed : framed worked (X (1 ∷ 4 ∷ 2 ∷ 5 ∷ []) ∷ X (3 ∷ 6 ∷ 4 ∷ 1 ∷ []) ∷ X (5 ∷ 2 ∷ 6 ∷ 3 ∷ []) ∷ []) (negsuc 0 ∷ []) (1 ∷ []) ≡ 25
