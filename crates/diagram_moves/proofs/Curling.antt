@@ -28,7 +28,8 @@ use Rattle.diagram_moves.specs.Moves.{second_place, curl_slots, curled_loop}
 use Rattle.diagram_moves.specs.Laws.{IsPairedDiagram}
 use Rattle.diagram_moves.proofs.Corners.{turned_numbers}
 use Rattle.diagram_moves.proofs.Nodes.{node, nodes_of, names_of-nodes, nodes_of-append, IsNode-nodes, IsNode-node, V, corner_value}
-use Rattle.diagram_moves.proofs.Paired.{loop_labels, loop_once, member_of_times, no_times, sizes-append}
+use Rattle.diagram_moves.proofs.Paired.{loop_labels, loop_once, sizes-append}
+use Rattle.list_lemmas.proofs.Times.{member_of_times, times_none, times_in-append}
 use Rattle.diagram_moves.proofs.PlaceLemmas.{second_place_of, crossing_labels-at_places, sizes-at_places, loop_count-at_places, EachFrom, each_from, mapped_back, times_one_place, one_place, fresh_above}
 use Rattle.diagram_moves.proofs.Pushing.{fresh_total, crossing_label, crossing_labels-append}
 use Rattle.diagram_moves.proofs.Undone.{paired_by, contraction_from, loop_count-append, unique_twice}
@@ -37,7 +38,6 @@ use Rattle.piece_laws.specs.Arcs.{arcs_of, AreClassLabels, closed_classes}
 use Rattle.graph_parts.specs.Ends.{ends_of}
 use Rattle.piece_laws.proofs.Closing.{arcs_close, none_counted}
 use Rattle.piece_laws.proofs.MovedRuns.{value_moved}
-use Rattle.list_lemmas.proofs.Times.{times_in-append}
 use Rattle.piece_laws.proofs.RenamedNodes.{rename_fixed}
 use Rattle.piece_laws.proofs.PlainMoves.{curl_anywhere}
 
@@ -306,7 +306,7 @@ module _ (items : List Item) (pd : IsPairedDiagram items) (e : ℕ) (has : is_me
   loop_total z h =
       ⊎_elim
       (λ s.
-      let none : times_in (crossing_labels items) z ≡ 0 = ap (times_in (crossing_labels items)) s ∙ no_times e (crossing_labels items) out in
+      let none : times_in (crossing_labels items) z ≡ 0 = ap (times_in (crossing_labels items)) s ∙ times_none (crossing_labels items) e out in
       let l : z < k = omega (arith, s, low_e) in
       let one : two_labels_more z ≡ 1 = grind (arith, nat_tests, s, l) in
       omega (arith, none, one))

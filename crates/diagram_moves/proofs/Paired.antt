@@ -12,17 +12,7 @@ use Rattle.pd_reader.specs.Diagrams.{labels, times}
 use Rattle.diagram_moves.specs.Rewriting.{crossing_labels}
 use Rattle.diagram_moves.specs.Laws.{IsPairedDiagram}
 use Rattle.list_lemmas.specs.Times.{times_in}
-use Rattle.list_lemmas.proofs.Times.{times_in-append}
-
-pub member_of_times : (x : ℕ) (xs : List ℕ) → 1 ≤ times_in xs x → is_member ◌==◌ xs x ≡ true
-member_of_times x [] h = absurd (omega (arith, h))
-member_of_times x (y ∷ xs) h =
-    let ih = member_of_times x xs in let e = sum_by-cons (λ z. cond (x == z) 1 0) y xs in grind (arith, nat_tests, ih, e, h)
-
-pub no_times : (x : ℕ) (xs : List ℕ) → is_member ◌==◌ xs x ≡ false → times_in xs x ≡ 0
-no_times x [] h = refl
-no_times x (y ∷ xs) h =
-    let ih = no_times x xs in let e = sum_by-cons (λ z. cond (x == z) 1 0) y xs in grind (arith, nat_tests, ih, e, h)
+use Rattle.list_lemmas.proofs.Times.{times_in-append, member_of_times, times_none}
 
 pub flip_times : (x : ℕ) (xs : List ℕ) → times x xs ≡ times_in xs x
 flip_times x [] = refl
@@ -71,7 +61,7 @@ pub loop_once : (items : List Item) → IsPairedDiagram items → (x : ℕ) → 
 loop_once items pd x m out =
     let e = times_labels items x in
     let t = sym (flip_times x (labels item_labels items)) ∙ all_of (λ label. times label (labels item_labels items) ≡ 2) (labels item_labels items) pd.twice x m in
-    let none : times_in (crossing_labels items) x ≡ 0 = no_times x (crossing_labels items) out in
+    let none : times_in (crossing_labels items) x ≡ 0 = times_none (crossing_labels items) x out in
     omega (arith, e, t, none)
 
 -- ---- sizes

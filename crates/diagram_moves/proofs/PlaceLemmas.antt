@@ -1,5 +1,5 @@
 -- Labels by their places: the two places of a label, and labels that become new ones at single places.
-use Rattle.std.proofs.Common.{◌≡◌, ◌≢◌, ltb, ℕ, zero, suc, ◌+◌, ◌<◌, ◌≤◌, Bool, true, cond, not, ◌==◌, List, [], ◌∷◌, ◌++◌, map, length, slice_index, refl, Some, None, unwrap_or, sym, ap, ◌∙◌, arith, ◌⊎◌, inl, inr, ⊎_elim, subst}
+use Rattle.std.proofs.Common.{◌≡◌, ◌≢◌, ltb, ℕ, zero, suc, ◌+◌, ◌<◌, Bool, true, cond, not, ◌==◌, List, [], ◌∷◌, ◌++◌, map, length, slice_index, refl, Some, None, unwrap_or, sym, ap, ◌∙◌, arith, ◌⊎◌, inl, inr, ⊎_elim, subst}
 use Rattle.std.specs.List.{AllByRecursion, AllPass, range_with_len}
 use Rattle.std.specs.Set.{is_member}
 use Rattle.std.proofs.lemmas.Bool.{or_left, or_right, eq-eqb, eqb-true, cases_Bool, or_cases, and_parts, lt-ltb, ltb-true}
@@ -12,7 +12,8 @@ use Rattle.pd_reader.specs.declared.item.Item.{Item}
 use Rattle.pd_reader.specs.declared.item.Item.TheVariants as item
 use Rattle.pd_reader.specs.Items.{HasItsSlots, item_labels}
 use Rattle.pd_reader.specs.Diagrams.{labels}
-use Rattle.planar_check.specs.Components.{greatest, rank}
+use Rattle.planar_check.specs.Components.{rank}
+use Rattle.planar_check.proofs.Strands.{member_at_most}
 use Rattle.planar_check.specs.Places.{labels_by_place, other_place, is_across, first_passing, crossings_of, place_labels}
 use Rattle.skein_network.specs.Brackets.{loop_count}
 use Rattle.state_sums.specs.LocalSums.{rename}
@@ -70,14 +71,6 @@ range_has n q l =
     let e = get_or-range_with_len 0 n q 0 l in
     let same : 0 + q ≡ q = omega arith in
     sym (ap (is_member ◌==◌ (range_with_len 0 n)) (e ∙ same)) ∙ is_member-get_or (range_with_len 0 n) q (omega (arith, l, long))
-
-place_of : (xs : List ℕ) (x : ℕ) → is_member ◌==◌ xs x ≡ true → (i : ℕ) × (i < length xs) × (slice_index xs i ≡ x)
-place_of [] x m = absurd (grind (arith, m))
-place_of (y ∷ xs) x m =
-    ⊎_elim
-    (λ e. (0, omega arith, sym (eqb-true x y e)))
-    (λ n. let r = place_of xs x n in (suc r.0, omega (arith, r.1), r.2))
-    (or_cases (x == y) (is_member ◌==◌ xs x) m)
 
 index_has : (ls : List ℕ) (e : ℕ) → is_member ◌==◌ ls e ≡ true → (rank ls e < length ls) × (slice_index ls (rank ls e) ≡ e)
 index_has [] e m = absurd (grind (arith, m))
@@ -238,10 +231,5 @@ times_two_places xs s t e f v w z ls lt es et apart =
     omega (arith, a, b, c)
 
 -- ---- fresh labels
-pub greatest_above : (xs : List ℕ) (x : ℕ) → is_member ◌==◌ xs x ≡ true → x ≤ greatest xs
-greatest_above [] x m = absurd (grind (arith, m))
-greatest_above (y ∷ xs) x m =
-    ⊎_elim (λ e. let t : x ≡ y = eqb-true x y e in omega (arith, t)) (λ n. let ih = greatest_above xs x n in omega (arith, ih)) (or_cases (x == y) (is_member ◌==◌ xs x) m)
-
 pub fresh_above : (items : List Item) (x : ℕ) → is_member ◌==◌ (labels item_labels items) x ≡ true → x < fresh items
-fresh_above items x m = let g = greatest_above (labels item_labels items) x m in omega (arith, g)
+fresh_above items x m = let g = member_at_most (labels item_labels items) x m in omega (arith, g)

@@ -24,7 +24,8 @@ use Rattle.diagram_moves.specs.Moves.{second_place, cut_labels, pushed}
 use Rattle.diagram_moves.specs.Laws.{IsPairedDiagram}
 use Rattle.diagram_moves.proofs.Corners.{turned_numbers}
 use Rattle.diagram_moves.proofs.Nodes.{node, nodes_of, names_of-nodes, nodes_of-append, IsNode-nodes, IsNode-node, V, corner_value}
-use Rattle.diagram_moves.proofs.Paired.{paired, times_labels, member_of_times, no_times, sizes-append}
+use Rattle.diagram_moves.proofs.Paired.{paired, times_labels, sizes-append}
+use Rattle.list_lemmas.proofs.Times.{member_of_times, times_none, times_in-append, times_of_member}
 use Rattle.diagram_moves.proofs.PlaceLemmas.{second_place_of, crossing_labels-at_places, sizes-at_places, loop_count-at_places, EachFrom, each_from, mapped_back, times_two_places, fresh_above}
 use Rattle.diagram_moves.proofs.Undone.{paired_by, contraction_from, loop_count-append}
 use Rattle.list_lemmas.specs.Times.{times_in}
@@ -33,7 +34,6 @@ use Rattle.piece_laws.specs.Arcs.{AreClassLabels, closed_classes}
 use Rattle.piece_laws.specs.Pieces.{ArePaired}
 use Rattle.piece_laws.proofs.Closing.{arcs_close, none_counted}
 use Rattle.piece_laws.proofs.MovedRuns.{value_moved}
-use Rattle.list_lemmas.proofs.Times.{times_in-append, times_of_member}
 use Rattle.piece_laws.proofs.PlainMoves.{bigon_anywhere}
 
 pub crossing_labels-append : (xs ys : List Item) → crossing_labels (xs ++ ys) ≡ crossing_labels xs ++ crossing_labels ys
@@ -57,7 +57,7 @@ fresh_total items pd z more old most h =
     let two = paired items pd z one in
     let c = old low in
     omega (arith, two, c))
-    (λ m. let none = no_times z (crossing_labels items) m in omega (arith, none, h, most))
+    (λ m. let none = times_none (crossing_labels items) z m in omega (arith, none, h, most))
     (cases_Bool (is_member ◌==◌ (crossing_labels items) z))
 
 -- how often z is one of four new labels

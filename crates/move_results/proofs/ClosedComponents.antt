@@ -25,14 +25,14 @@ use Rattle.diagram_moves.proofs.KeptStrands.{kept_strands}
 use Rattle.move_results.proofs.CutComponents.{strand_edges-append, contains_map, contains_unmap, each_walk}
 use Rattle.move_results.proofs.LeastLabelLists.{Contracts, least_labels_by, least_in_big, least_in_small, joined_through}
 use Rattle.diagram_moves.proofs.Nodes.{kept, none_some}
-use Rattle.diagram_moves.proofs.Paired.{paired, times_labels, loop_labels, member_of_times, no_times, twice_in_all}
+use Rattle.diagram_moves.proofs.Paired.{paired, times_labels, loop_labels, twice_in_all}
+use Rattle.list_lemmas.proofs.Times.{member_of_times, times_none, times_of_member}
 use Rattle.move_results.proofs.PairedAgain.{after_labels, closed_times, label_inside, in_ends, in_names, ends_are, closed}
 use Rattle.diagram_moves.proofs.NoNumbers.{nothing, modulo_one}
 use Rattle.diagram_moves.proofs.Pulling.{recounted, curl_recounted}
 use Rattle.diagram_moves.proofs.Undone.{least_contraction, sizes-closing}
 use Rattle.list_lemmas.specs.Times.{times_in}
 use Rattle.graph_parts.specs.Ends.{ends_of}
-use Rattle.list_lemmas.proofs.Times.{times_of_member}
 use Rattle.piece_laws.proofs.NameCounts.{member_mapped}
 
 -- ---- strands of the crossings that stay
@@ -238,7 +238,7 @@ module _ (items : List Item) (pd : IsPairedDiagram items) (gone : List ℕ) (pai
       (λ b. inl (inr b))
       (λ b.
       let none : times_in shut z ≡ 0 = grind (arith, nat_tests, s, a, b) in
-      let no_name = no_times z (map label names) h in
+      let no_name = times_none (map label names) z h in
       let loop : 1 ≤ times_in (loop_labels items) z = omega (arith, one, t, none, no_name) in
       inr (
         member_of_times z (loop_labels items) loop,
@@ -294,7 +294,7 @@ module _ (items : List Item) (pd : IsPairedDiagram items) (gone : List ℕ) (pai
         let t = all_after (label l) in
         let not_name : is_member ◌==◌ names l ≡ false =
         ⊎_elim (λ i. absurd (let k = is_member-map label names l i in grind (arith, k, h))) (λ i. i) (cases_Bool (is_member ◌==◌ names l)) in
-        let none = no_times l names not_name in
+        let none = times_none names l not_name in
         let end = member_of_times l (ends_of pairs) (omega (arith, one, e, none)) in
         let class = ends_class l end in
         let met : times_in shut (label l) ≡ 1 = ⊎_elim (λ k. grind (arith, nat_tests, s, h, k)) (λ k. grind (arith, nat_tests, s, h, k)) class in
@@ -304,7 +304,7 @@ module _ (items : List Item) (pd : IsPairedDiagram items) (gone : List ℕ) (pai
         let same = outside l c in
         let one = times_of_member l (labels item_labels items) m in
         let e = times_labels items l in
-        let none = no_times l (crossing_labels items) c in
+        let none = times_none (crossing_labels items) l c in
         let t = all_after l in
         let P : ℕ → Type 0 = λ z. is_member ◌==◌ (labels item_labels after) z ≡ true in
         subst P (sym same) (member_of_times l (labels item_labels after) (omega (arith, one, e, none, t))))

@@ -24,9 +24,11 @@ use Rattle.move_results.proofs.CurledComponents.{curled_components}
 use Rattle.diagram_moves.proofs.Curling.{loop_label, loop_label_e, loop_label_k, low_e, is_loop_label, loop_slots_four, sizes-curled_loop}
 use Rattle.move_results.proofs.LeastLabelLists.{Contracts, strands_among, to_least, from_least, bool_same, in_range_of, least_labels_by, least_in_big, least_in_small}
 use Rattle.diagram_moves.proofs.NoNumbers.{nothing}
-use Rattle.diagram_moves.proofs.Paired.{times_labels, loop_labels, member_of_times, no_times, sizes-append}
+use Rattle.diagram_moves.proofs.Paired.{times_labels, loop_labels, sizes-append}
+use Rattle.list_lemmas.proofs.Times.{member_of_times, times_none, times_in-append, times_of_member}
 use Rattle.move_results.proofs.PairedResults.{curled_crossings, curled_loops, triangle_edges}
-use Rattle.diagram_moves.proofs.PlaceLemmas.{fresh_above, greatest_above}
+use Rattle.diagram_moves.proofs.PlaceLemmas.{fresh_above}
+use Rattle.planar_check.proofs.Strands.{member_at_most}
 use Rattle.move_results.proofs.CutComponents.{strand_edges-append}
 use Rattle.move_results.proofs.PairedAgain.{loop_labels-append}
 use Rattle.diagram_moves.proofs.Pushing.{crossing_labels-append}
@@ -35,7 +37,6 @@ use Rattle.move_results.proofs.PushedComponents.{pushed_components}
 use Rattle.move_results.proofs.Results.{Reached, by_push, by_pull, by_slide, by_curl, by_curl_on_loop, by_uncurl, reached, blown_up}
 use Rattle.move_results.proofs.TriangleComponents.{triangle_components}
 use Rattle.list_lemmas.specs.Times.{times_in}
-use Rattle.list_lemmas.proofs.Times.{times_in-append, times_of_member}
 
 -- ---- a Loop that gets a curl
 curled_strand : (e : ℕ) (slots : List ℕ) (items : List Item) (w : ℕ × ℕ) → Contains (strand_edges (curled_loop e slots items)) w → Contains (item_strands (item.X slots)) w ⊎ Contains (strand_edges items) w
@@ -145,7 +146,7 @@ module _ (items : List Item) (pd : IsPairedDiagram items) (e : ℕ) (has : is_me
         ⊎_elim
         (λ h. ap in_old (old_label l (fresh_above items l h)) ∙ h)
         (λ h.
-        let one = times_of_member l (labels item_labels after) m in let t = total l in let none = no_times l (labels item_labels items) h in
+        let one = times_of_member l (labels item_labels after) m in let t = total l in let none = times_none (labels item_labels items) l h in
         ⊎_elim
         (λ s. ap in_old (ap to s ∙ loop_label_k items pd e has out sign) ∙ has)
         (λ s. absurd (let zero_now : times_in (labels item_labels after) l ≡ 0 = grind (arith, nat_tests, t, none, s) in omega (arith, one, zero_now)))
@@ -242,7 +243,7 @@ blown_components items pd =
     let new_least : p (0 + n) ≡ true = (let e : 0 + n ≡ n = omega arith in ap p e ∙ from_least after sizes n (new_in, alone)) in
     let top = greatest (labels item_labels after) + 1 in
     in_range_of p top (n + 1)
-    (λ z t. let g = greatest_above (labels item_labels after) z (to_least after sizes z t).0 in omega (arith, g))
+    (λ z t. let g = member_at_most (labels item_labels after) z (to_least after sizes z t).0 in omega (arith, g))
     (λ z t.
     let m = (to_least after sizes z t).0 in
     let one = times_of_member z (labels item_labels after) m in

@@ -15,10 +15,9 @@ use Rattle.planar_check.specs.Components.{strand_edges, item_strands, least_labe
 use Rattle.diagram_moves.specs.Laws.{IsPairedDiagram}
 use Rattle.diagram_moves.specs.Rewriting.{crossing_labels, map_from, at_places, fresh}
 use Rattle.move_results.proofs.LeastLabelLists.{Contracts, least_labels_by, least_in_big, least_in_small, joined_through}
-use Rattle.diagram_moves.proofs.Paired.{member_of_times, no_times}
+use Rattle.list_lemmas.proofs.Times.{member_of_times, times_none, times_of_member}
 use Rattle.diagram_moves.proofs.PlaceLemmas.{EachFrom, mapped_labels, fresh_above, length-map_from, each_first, each_second}
 use Rattle.list_lemmas.specs.Times.{times_in}
-use Rattle.list_lemmas.proofs.Times.{times_of_member}
 
 pub strand_edges-append : (xs ys : List Item) → strand_edges (xs ++ ys) ≡ strand_edges xs ++ strand_edges ys
 strand_edges-append [] ys = refl
@@ -85,7 +84,7 @@ module _ (items : List Item) (pd : IsPairedDiagram items) (g : ℕ → ℕ → �
   old_or_new z m =
       let one = times_of_member z (labels item_labels after) m in
       let t = total z in
-      ⊎_elim (λ h. inl h) (λ h. inr (let none = no_times z (labels item_labels items) h in omega (arith, one, t, none))) (cases_Bool (is_member ◌==◌ (labels item_labels items) z))
+      ⊎_elim (λ h. inl h) (λ h. inr (let none = times_none (labels item_labels items) z h in omega (arith, one, t, none))) (cases_Bool (is_member ◌==◌ (labels item_labels items) z))
 
   cut_contracts : Contracts after items label
   cut_contracts = record {

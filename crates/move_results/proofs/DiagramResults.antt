@@ -18,14 +18,13 @@ use Rattle.move_results.proofs.ComponentLaws as loops
 use Rattle.move_results.proofs.CurledComponents as curls
 use Rattle.diagram_moves.proofs.Curling.{new_two}
 use Rattle.diagram_moves.proofs.NoNumbers.{nothing}
-use Rattle.diagram_moves.proofs.Paired.{member_of_times, no_times}
+use Rattle.list_lemmas.proofs.Times.{member_of_times, times_none, times_of_member}
 use Rattle.move_results.proofs.PairedResults.{paired_again, triangle_edges}
 use Rattle.move_results.proofs.PushedComponents as pushes
 use Rattle.diagram_moves.proofs.Pushing.{new_four}
 use Rattle.move_results.proofs.Results.{Reached, by_push, by_pull, by_slide, by_curl, by_curl_on_loop, by_uncurl, reached, blown_up, blown_few}
 use Rattle.move_results.proofs.TriangleComponents.{after_members}
 use Rattle.list_lemmas.specs.Times.{times_in}
-use Rattle.list_lemmas.proofs.Times.{times_of_member}
 
 -- a label of the result is one of the diagram, or one of four new ones
 abbrev pub OldOrNew : List Item → ℕ → Type 0
@@ -35,7 +34,7 @@ from_total : (items after : List Item) (z k : ℕ) → times_in (labels item_lab
     is_member ◌==◌ (labels item_labels after) z ≡ true → OldOrNew items z
 from_total items after z k total new m =
     let one = times_of_member z (labels item_labels after) m in
-    ⊎_elim (λ h. inl h) (λ h. inr (new (let none = no_times z (labels item_labels items) h in omega (arith, one, total, none)))) (cases_Bool (is_member ◌==◌ (labels item_labels items) z))
+    ⊎_elim (λ h. inl h) (λ h. inr (new (let none = times_none (labels item_labels items) z h in omega (arith, one, total, none)))) (cases_Bool (is_member ◌==◌ (labels item_labels items) z))
 
 of_four : (n z : ℕ) → 1 ≤ new_four n z → (n ≤ z) × (z ≤ n + 3)
 of_four n z h = (grind (arith, nat_tests, h), grind (arith, nat_tests, h))

@@ -14,7 +14,7 @@ use Rattle.pd_reader.specs.declared.item.Item.TheVariants as item
 use Rattle.pd_reader.specs.Items.{item_labels, HasItsSlots}
 use Rattle.pd_reader.specs.Diagrams.{labels}
 use Rattle.planar_check.specs.Components.{strand_edges, component_least, is_least_of, least_labels, greatest}
-use Rattle.diagram_moves.proofs.PlaceLemmas.{greatest_above}
+use Rattle.planar_check.proofs.Strands.{member_at_most}
 
 -- ---- strands join labels of the diagram
 pub strands_among : (items : List Item) → AllByRecursion HasItsSlots items → AreAmong (labels item_labels items) (strand_edges items)
@@ -97,8 +97,8 @@ least_labels_by old new sizes_old sizes_new to from =
     let n = greatest (labels item_labels new) + 1 in
     let k = greatest (labels item_labels old) + 1 in
     in_range_of p n k
-    (λ x t. let g = greatest_above (labels item_labels new) x (to_least new sizes_new x t).0 in omega (arith, g))
-    (λ x t. let g = greatest_above (labels item_labels old) x (to_least old sizes_old x (sym (same x) ∙ t)).0 in omega (arith, g))
+    (λ x t. let g = member_at_most (labels item_labels new) x (to_least new sizes_new x t).0 in omega (arith, g))
+    (λ x t. let g = member_at_most (labels item_labels old) x (to_least old sizes_old x (sym (same x) ∙ t)).0 in omega (arith, g))
     ∙ filter_same p q (range_with_len 0 k) same
 
 -- ---- walks along walks

@@ -22,10 +22,10 @@ use Rattle.diagram_moves.specs.Moves.{two_labels, closing, removed}
 use Rattle.diagram_moves.proofs.Nodes.{kept, names_of-nodes}
 use Rattle.diagram_moves.proofs.Pushing.{crossing_labels-append}
 use Rattle.diagram_moves.proofs.Undone.{nodes_of-removed, sizes-closing}
-use Rattle.diagram_moves.proofs.Paired.{paired, flip_times, member_of_times, no_times, times_labels, twice_in_all, loop_labels}
+use Rattle.diagram_moves.proofs.Paired.{paired, flip_times, times_labels, twice_in_all, loop_labels}
+use Rattle.list_lemmas.proofs.Times.{member_of_times, times_none, times_in-append, times_of_member}
 use Rattle.diagram_moves.proofs.PlaceLemmas.{fresh_above}
 use Rattle.list_lemmas.specs.Times.{times_in}
-use Rattle.list_lemmas.proofs.Times.{times_in-append, times_of_member}
 use Rattle.piece_laws.proofs.NameCounts.{member_mapped}
 
 -- ---- a fact of each element
@@ -52,7 +52,7 @@ fresh_all items pd z more old most h =
     let two = twice_in_all items pd z (times_of_member z (labels item_labels items) m) in
     let c = old low in
     omega (arith, two, c))
-    (λ m. let none = no_times z (labels item_labels items) m in omega (arith, none, h, most))
+    (λ m. let none = times_none (labels item_labels items) z m in omega (arith, none, h, most))
     (cases_Bool (is_member ◌==◌ (labels item_labels items) z))
 
 -- ---- names that pairs make one
@@ -248,7 +248,7 @@ module _ (items : List Item) (pd : IsPairedDiagram items) (gone : List ℕ) (pai
       let none : times_in closed z ≡ 0 = grind (arith, ct, t) in
       omega (arith, total, twice, none, no_loop))
       (λ t.
-      let gone_now = no_times z (map label names) t in
+      let gone_now = times_none (map label names) z t in
       let most : times_in closed z ≤ 1 = grind (arith, ct) in
       omega (arith, total, gone_now, most, no_loop, h))
       (cases_Bool (is_member ◌==◌ (map label names) z)))
@@ -263,8 +263,8 @@ module _ (items : List Item) (pd : IsPairedDiagram items) (gone : List ℕ) (pai
       let not_x = λ (s : z ≡ label x). ap (is_member ◌==◌ (crossing_labels items)) s ∙ at_x in
       let not_y = λ (s : z ≡ label y). ap (is_member ◌==◌ (crossing_labels items)) s ∙ at_y in
       let none : times_in closed z ≡ 0 = grind (arith, nat_tests, ct, not_x, not_y, out) in
-      let gone_now = no_times z (map label names) no_name in
-      let no_cross = no_times z (crossing_labels items) out in
+      let gone_now = times_none (map label names) z no_name in
+      let no_cross = times_none (crossing_labels items) z out in
       let all = twice_in_all items pd z (omega (arith, old, total, h, none, gone_now)) in
       omega (arith, total, none, gone_now, no_cross, old, all))
       (cases_Bool (is_member ◌==◌ (crossing_labels items) z)))

@@ -14,10 +14,10 @@ use Rattle.planar_check.specs.Components.{strand_edges, least_labels}
 use Rattle.move_results.proofs.ClosedComponents.{strand_picked, stays_within, kept_all, of_strands, joined_opposite, crossing_walks}
 use Rattle.diagram_moves.proofs.KeptStrands.{kept_strands}
 use Rattle.move_results.proofs.LeastLabelLists.{Contracts, least_labels_by, least_in_big, least_in_small}
-use Rattle.diagram_moves.proofs.Paired.{times_labels, member_of_times}
+use Rattle.diagram_moves.proofs.Paired.{times_labels}
+use Rattle.list_lemmas.proofs.Times.{member_of_times, times_of_member}
 use Rattle.diagram_moves.proofs.Rewritten.{kept_strands-rewritten, loop_labels-rewritten}
 use Rattle.list_lemmas.specs.Times.{times_in}
-use Rattle.list_lemmas.proofs.Times.{times_of_member}
 use Rattle.diagram_moves.proofs.Triangles as triangle
 
 module _ (m delta a b : ℕ) (numbers : AreSkeinNumbers m a b delta) (items : List Item) (pd : IsPairedDiagram items)
