@@ -13,7 +13,7 @@ use Rattle.root_quantum.specs.Parameters.{Parameters}
 use Rattle.root_quantum.specs.QuantumNumbers.{inverse_root}
 use Rattle.pd_reader.specs.declared.item.NetItem.{NetItem}
 use Rattle.pd_reader.specs.declared.item.NetItem.TheVariants.{X, Y, Loop}
-use Rattle.skein_network.specs.Crossings.{crossing_node, joins_ab_cd, joins_ad_bc}
+use Rattle.diagram_brackets.specs.Crossings.{crossing_node, joins_ab_cd, joins_ad_bc}
 use Rattle.strand_algebra.specs.StrandPairings.{straight}
 use Rattle.strand_algebra.proofs.PairingLaws.{straight_noncrossing}
 use Rattle.cables.specs.Strands.{Strands, names_at}

@@ -11,7 +11,7 @@ use Rattle.list_lemmas.proofs.Sums.{sum_by_same}
 use Rattle.root_quantum.specs.Parameters.{Parameters}
 use Rattle.pd_reader.specs.declared.item.NetItem.{NetItem}
 use Rattle.pd_reader.specs.declared.item.NetItem.TheVariants.{X, Y, Loop}
-use Rattle.skein_network.specs.Crossings.{crossing_node}
+use Rattle.diagram_brackets.specs.Crossings.{crossing_node}
 use Rattle.cables.specs.Strands.{Strands, names_at}
 use Rattle.cables.specs.CableNodes.{line_names, upright_names, row, grid, crossing_cable, vertex_cable, box_node}
 use Rattle.cables.specs.Cables.{Standing, passed, past_all, box_nodes, loop_nodes, item_nodes, cable_nodes}

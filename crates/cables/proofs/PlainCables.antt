@@ -7,8 +7,8 @@ use Rattle.root_quantum.specs.Parameters.{Parameters}
 use Rattle.pd_reader.specs.declared.item.Item.{Item}
 use Rattle.pd_reader.specs.declared.item.Item.TheVariants.{X, Loop}
 use Rattle.pd_reader.specs.Items.{HasItsSlots}
-use Rattle.skein_network.specs.Crossings.{crossing_node}
-use Rattle.skein_network.specs.Brackets as brackets
+use Rattle.diagram_brackets.specs.Crossings.{crossing_node}
+use Rattle.diagram_brackets.specs.Brackets as brackets
 use Rattle.cables.specs.Strands.{Strands, strands_of, names_at}
 use Rattle.cables.specs.CableNodes.{crossing_cable}
 use Rattle.cables.specs.Cables.{Standing, passed, past_all, box_nodes, loop_nodes, cable_nodes, loop_count, loops_at, net_item, as_net, start}

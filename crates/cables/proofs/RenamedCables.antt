@@ -9,7 +9,7 @@ use Rattle.state_sums.specs.LocalSums.{rename}
 use Rattle.root_quantum.specs.Parameters.{Parameters}
 use Rattle.pd_reader.specs.declared.item.NetItem.{NetItem}
 use Rattle.pd_reader.specs.declared.item.NetItem.TheVariants.{X, Y, Loop}
-use Rattle.skein_network.specs.Crossings.{crossing_node}
+use Rattle.diagram_brackets.specs.Crossings.{crossing_node}
 use Rattle.strand_algebra.specs.StrandPairings.{straight}
 use Rattle.cables.specs.Strands.{Strands, names_at, renamed_strands}
 use Rattle.cables.specs.CableNodes.{upright_names, line_names, row, grid, through_node, crossing_cable, vertex_partner, joining, vertex_cable, box_node}

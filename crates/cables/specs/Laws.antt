@@ -18,7 +18,7 @@ use Rattle.pd_reader.specs.Diagrams.{IsNet, labels, times}
 use Rattle.cables.specs.Strands.{Strands, strands_of, first_names, exchanged, renamed_strands}
 use Rattle.cables.specs.Cables.{Standing, cable, cable_nodes, loop_nodes, loops_at, Fits, AreBoxes, as_net}
 use Rattle.cables.specs.Nets.{cabled_net, first_inadmissible, first_unequal, projector_of}
-use Rattle.skein_network.specs.Brackets.{bracket_network}
+use Rattle.diagram_brackets.specs.Brackets.{bracket_network}
 
 -- A network within the limits of the types.
 pub record IsSmallNetwork (m : ℕ) (network : Network) : Type 0 where

@@ -16,7 +16,7 @@ use Rattle.pd_reader.specs.Diagrams.{labels, times}
 use Rattle.planar_check.specs.Components.{greatest, component_least, least_labels, number_of}
 use Rattle.planar_check.proofs.FewComponents.{number_first, number_last}
 use Rattle.planar_check.proofs.Strands.{member_at_most}
-use Rattle.skein_network.specs.Brackets.{bracket}
+use Rattle.diagram_brackets.specs.Brackets.{bracket}
 use Rattle.strand_algebra.specs.Projectors.{IsProjector}
 use Rattle.cables.specs.Strands.{Strands, strands_of, first_names, second_names}
 use Rattle.cables.specs.Cables.{cable, Fits, as_net, net_item}

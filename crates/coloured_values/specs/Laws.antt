@@ -14,7 +14,7 @@ use Rattle.pd_reader.specs.declared.item.Item.TheVariants.{Loop}
 use Rattle.pd_reader.specs.Items.{item_labels}
 use Rattle.pd_reader.specs.Diagrams.{labels, IsDiagram}
 use Rattle.planar_check.specs.Components.{greatest, least_labels}
-use Rattle.skein_network.specs.Brackets.{bracket}
+use Rattle.diagram_brackets.specs.Brackets.{bracket}
 use Rattle.cables.specs.Laws.{IsSmallNetwork}
 use Rattle.cables.specs.Nets.{HasProjector}
 use Rattle.coloured_values.specs.Coloured.{cabled, coloured}

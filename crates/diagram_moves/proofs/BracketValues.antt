@@ -7,8 +7,8 @@ use Rattle.pd_reader.specs.declared.item.Item.TheVariants as item
 use Rattle.pd_reader.specs.Items.{HasItsSlots}
 use Rattle.root_quantum.specs.Parameters.{Parameters}
 use Rattle.root_quantum.specs.QuantumNumbers.{inverse_root, loop_value}
-use Rattle.skein_network.specs.Brackets.{strand_name, crossing_nodes, loop_count, bracket}
-use Rattle.skein_network.specs.Crossings.{crossing_node}
+use Rattle.diagram_brackets.specs.Brackets.{strand_name, crossing_nodes, loop_count, bracket}
+use Rattle.diagram_brackets.specs.Crossings.{crossing_node}
 use Rattle.state_sums.specs.LocalSums.{rename}
 use Rattle.state_sums.specs.Networks.{Node, IsNode, names_of}
 use Rattle.state_sums.specs.StateSums.{value, term_edges}

@@ -9,7 +9,7 @@ use Rattle.pd_reader.specs.Torus.{torus_items}
 use Rattle.planar_check.specs.declared.sign.Sign.TheVariants as signs
 use Rattle.planar_check.specs.Places.{other_place}
 use Rattle.planar_check.specs.Planar.{face_count, wanted_faces, piece_count, edge_count}
-use Rattle.skein_network.specs.Brackets.{loop_count}
+use Rattle.diagram_brackets.specs.Brackets.{loop_count}
 use Rattle.state_sums.specs.StateSums.{value}
 use Rattle.diagram_moves.proofs.Nodes.{nodes_of}
 use Rattle.planar_check.specs.Planar.{face_of}

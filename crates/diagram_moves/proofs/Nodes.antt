@@ -8,7 +8,7 @@ use Rattle.std.proofs.lemmas.List.Elements.{All-append, All-cons, All-nil}
 use Rattle.pd_reader.specs.declared.item.Item.{Item}
 use Rattle.pd_reader.specs.declared.item.Item.TheVariants as item
 use Rattle.pd_reader.specs.Items.{HasItsSlots}
-use Rattle.skein_network.specs.Crossings.{joins_ab_cd, joins_ad_bc}
+use Rattle.diagram_brackets.specs.Crossings.{joins_ab_cd, joins_ad_bc}
 use Rattle.state_sums.specs.LocalSums.{crossing}
 use Rattle.state_sums.specs.Networks.{Node, IsNode, names_of}
 use Rattle.state_sums.specs.StateSums.{value}

@@ -15,7 +15,7 @@ use Rattle.pd_reader.specs.Diagrams.{labels}
 use Rattle.planar_check.specs.Components.{rank}
 use Rattle.planar_check.proofs.Strands.{member_at_most}
 use Rattle.planar_check.specs.Places.{labels_by_place, other_place, is_across, first_passing, crossings_of, place_labels}
-use Rattle.skein_network.specs.Brackets.{loop_count}
+use Rattle.diagram_brackets.specs.Brackets.{loop_count}
 use Rattle.state_sums.specs.LocalSums.{rename}
 use Rattle.diagram_moves.specs.Rewriting.{crossing_labels, map_from, at_places, fresh}
 use Rattle.diagram_moves.specs.Moves.{second_place, cut_labels, first_place_of}

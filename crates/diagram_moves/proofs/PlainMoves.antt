@@ -16,7 +16,7 @@ use Rattle.planar_check.specs.declared.sign.Sign.TheVariants as signs
 use Rattle.root_quantum.specs.Parameters.{Parameters}
 use Rattle.root_quantum.specs.QuantumNumbers.{inverse_root, loop_value, twist}
 use Rattle.root_quantum.proofs.LawProofs.{twist_none_law}
-use Rattle.skein_network.specs.Brackets.{loop_count, bracket}
+use Rattle.diagram_brackets.specs.Brackets.{loop_count, bracket}
 use Rattle.state_sums.specs.StateSums.{value}
 use Rattle.state_sums.proofs.Congruent.{pow_0, pow_1}
 use Rattle.diagram_moves.specs.Laws.{PlainMovesLaw, IsPairedDiagram}

@@ -7,7 +7,7 @@ use Rattle.std.proofs.lemmas.Bool.Decides.{nat_tests}
 use Rattle.graph_parts.specs.LeastNames.{least_label}
 use Rattle.graph_parts.specs.Walks.{along}
 use Rattle.pd_reader.specs.declared.item.Item.{Item}
-use Rattle.skein_network.specs.Brackets.{loop_count}
+use Rattle.diagram_brackets.specs.Brackets.{loop_count}
 use Rattle.state_sums.specs.LocalSums.{crossing, AreSkeinNumbers}
 use Rattle.state_sums.specs.Networks.{Node, names_of}
 use Rattle.state_sums.specs.StateSums.{value}

@@ -12,7 +12,7 @@ use Rattle.pd_reader.specs.declared.item.Item.{Item}
 use Rattle.pd_reader.specs.declared.item.Item.TheVariants as item
 use Rattle.pd_reader.specs.Items.{HasItsSlots, item_labels}
 use Rattle.pd_reader.specs.Diagrams.{labels}
-use Rattle.skein_network.specs.Brackets.{loop_count}
+use Rattle.diagram_brackets.specs.Brackets.{loop_count}
 use Rattle.state_sums.specs.LocalSums.{crossing, AreSkeinNumbers}
 use Rattle.state_sums.specs.Networks.{Node, IsNode, names_of}
 use Rattle.state_sums.specs.StateSums.{value}

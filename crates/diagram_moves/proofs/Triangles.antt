@@ -4,7 +4,7 @@ use Rattle.std.specs.List.{AllByRecursion}
 use Rattle.std.proofs.lemmas.Bool.{cases_Bool, eq-eqb}
 use Rattle.pd_reader.specs.declared.item.Item.{Item}
 use Rattle.pd_reader.specs.Items.{HasItsSlots}
-use Rattle.skein_network.specs.Brackets.{loop_count}
+use Rattle.diagram_brackets.specs.Brackets.{loop_count}
 use Rattle.state_sums.specs.LocalSums.{crossing, AreSkeinNumbers}
 use Rattle.state_sums.specs.Networks.{Node, names_of}
 use Rattle.state_sums.specs.StateSums.{value}

@@ -11,7 +11,7 @@ use Rattle.graph_parts.proofs.LeastLabels.{AreLeast-labels, least_label-Joined}
 use Rattle.pd_reader.specs.declared.item.Item.{Item}
 use Rattle.pd_reader.specs.declared.item.Item.TheVariants as item
 use Rattle.pd_reader.specs.Items.{HasItsSlots}
-use Rattle.skein_network.specs.Brackets.{loop_count}
+use Rattle.diagram_brackets.specs.Brackets.{loop_count}
 use Rattle.state_sums.specs.LocalSums.{rename}
 use Rattle.state_sums.specs.Networks.{names_of}
 use Rattle.state_sums.specs.StateSums.{value}

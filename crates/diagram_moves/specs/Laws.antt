@@ -6,7 +6,7 @@ use Rattle.root_quantum.specs.Parameters.{Parameters}
 use Rattle.pd_reader.specs.declared.item.Item.{Item}
 use Rattle.pd_reader.specs.Items.{item_labels, HasItsSlots}
 use Rattle.pd_reader.specs.Diagrams.{labels, times}
-use Rattle.skein_network.specs.Brackets.{bracket}
+use Rattle.diagram_brackets.specs.Brackets.{bracket}
 use Rattle.diagram_moves.specs.Moves.{move}
 use Rattle.diagram_moves.specs.Steps.{Step, Moved}
 use Rattle.diagram_moves.specs.Values.{factor_value}

@@ -11,7 +11,7 @@ use Rattle.pd_reader.specs.declared.item.Item.{Item}
 use Rattle.pd_reader.specs.Diagrams.{IsDiagram}
 use Rattle.planar_check.specs.Components.{least_labels}
 use Rattle.planar_check.specs.Places.{other_places, crossings_of, slots_after, place_labels}
-use Rattle.skein_network.specs.Brackets.{bracket}
+use Rattle.diagram_brackets.specs.Brackets.{bracket}
 use Rattle.diagram_moves.specs.Moves.{move, is_bigon, is_triangle}
 use Rattle.diagram_moves.specs.Rewriting.{slot, crossing_at, fresh}
 use Rattle.diagram_moves.specs.Steps.{Step, R2, R2Undo, R3, Curl, CurlUndo, BlowUp, Moved}

@@ -18,7 +18,7 @@ use Rattle.pd_reader.specs.declared.item.Item.TheVariants.{X, Loop}
 use Rattle.pd_reader.specs.declared.fault.TextFault.TheVariants as texts
 use Rattle.planar_check.specs.Places.{other_place}
 use Rattle.planar_check.specs.Planar.{face_count, piece_count, edge_count, wanted_faces}
-use Rattle.skein_network.specs.Brackets.{bracket}
+use Rattle.diagram_brackets.specs.Brackets.{bracket}
 use Rattle.wrt_words.proofs.OnLiterals.{words_on_literals}
 use Rattle.wrt_request.proofs.OnLiterals.{request_on_literals}
 use Rattle.wrt_request.specs.declared.request.Request.{Request}

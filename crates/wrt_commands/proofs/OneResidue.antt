@@ -1,7 +1,7 @@
 -- Whatever the order, the residue of a report is the bracket: a report comes only where the list of the order is one of the
 -- items and the sweep meets no limit, and then its residue names no order.
 use Rattle.std.proofs.Common.{◌≡◌, ℕ, Bool, cond, true, false, List, Option, Some, None, Result, Ok, Err}
-use Rattle.skein_network.specs.Brackets.{bracket, bracket_network}
+use Rattle.diagram_brackets.specs.Brackets.{bracket, bracket_network}
 use Rattle.frontier_sweep.specs.declared.fault.SweepFault.{SweepFault}
 use Rattle.wrt_commands.specs.declared.refusal.Refusal.{Refusal}
 use Rattle.wrt_commands.specs.Reports.{report_of}

@@ -9,7 +9,7 @@ use Rattle.pd_reader.specs.declared.item.Item.{Item}
 use Rattle.planar_check.specs.declared.fault.PlanarFault.{PlanarFault}
 use Rattle.planar_check.specs.Places.{item_slots}
 use Rattle.planar_check.specs.Planar.{planar_refusal}
-use Rattle.skein_network.specs.Brackets.{bracket, bracket_network}
+use Rattle.diagram_brackets.specs.Brackets.{bracket, bracket_network}
 use Rattle.frontier_sweep.specs.declared.fault.SweepFault.{SweepFault}
 use Rattle.wrt_request.specs.declared.request.Request.{Request}
 use Rattle.wrt_commands.specs.declared.refusal.Refusal.{Refusal}

@@ -6,7 +6,7 @@
 use Rattle.std.specs.Prelude.{◌≡◌, ℕ, List, Option}
 use Rattle.root_quantum.specs.Parameters.{Parameters}
 use Rattle.pd_reader.specs.declared.item.Item.{Item}
-use Rattle.skein_network.specs.Brackets.{bracket}
+use Rattle.diagram_brackets.specs.Brackets.{bracket}
 use Rattle.wrt_request.specs.declared.request.Request.{Request}
 use Rattle.wrt_commands.specs.Reports.{report_of}
 use Rattle.wrt_commands.specs.Outcomes.{Outcome, done, diagram_outcome, IsOutcome}

@@ -34,7 +34,7 @@ use Rattle.planar_check.specs.declared.fault.PlanarFault.{PlanarFault}
 use Rattle.planar_check.specs.declared.fault.PlanarFault.TheVariants as planar
 use Rattle.planar_check.specs.Places.{item_slots}
 use Rattle.planar_check.specs.Planar.{planar_refusal}
-use Rattle.skein_network.specs.Brackets.{bracket, bracket_network}
+use Rattle.diagram_brackets.specs.Brackets.{bracket, bracket_network}
 use Rattle.frontier_sweep.specs.declared.fault.SweepFault.{SweepFault}
 use Rattle.frontier_sweep.specs.declared.fault.SweepFault.TheVariants as sweeps
 use Rattle.wrt_parts.specs.Texts.{Texts}

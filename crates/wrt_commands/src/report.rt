@@ -12,7 +12,7 @@ use crate::opening::Opened;
 use crate::refusal::Refusal;
 use crate::sweeping::{Swept, sweep};
 use pd_reader::{Diagram, torus};
-use skein_network::bracket_network;
+use diagram_brackets::bracket_network;
 use std::alloc::{AllocError, Global};
 
 /// The report of a value.

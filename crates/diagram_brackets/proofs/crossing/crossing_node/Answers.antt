@@ -1,5 +1,5 @@
 use Rattle.std.proofs.Common.{◌<◌, ap, ◌∙◌, Err, arith}
-use Rattle.skein_network.proofs.crossing.crossing_node.Goals as goal
+use Rattle.diagram_brackets.proofs.crossing.crossing_node.Goals as goal
 
 pub unreachable-requires : goal.unreachable-requires
 unreachable-requires c =

@@ -1,6 +1,6 @@
 use Rattle.std.proofs.Common.{◌≡◌, ◌+◌, take, length}
-use Rattle.skein_network.specs.Brackets.{crossing_nodes, loop_count}
-use Rattle.skein_network.proofs.bracket.bracket_network.Given as goal
+use Rattle.diagram_brackets.specs.Brackets.{crossing_nodes, loop_count}
+use Rattle.diagram_brackets.proofs.bracket.bracket_network.Given as goal
 
 abbrev pub invariant-loop-item : goal.invariant-loop-item
 invariant-loop-item l =

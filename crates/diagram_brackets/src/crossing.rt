@@ -2,8 +2,8 @@
 
 ghost use Rattle.std.specs.Prelude.{◌≡◌, ◌≤◌, ◌<◌, IfOk, length, map};
 ghost use Rattle.std.specs.List.{All};
-ghost use Rattle.skein_network.specs.Crossings.{crossing_node, joins_ab_cd, joins_ad_bc};
-ghost use Rattle.skein_network.specs.Brackets.{strand_name};
+ghost use Rattle.diagram_brackets.specs.Crossings.{crossing_node, joins_ab_cd, joins_ad_bc};
+ghost use Rattle.diagram_brackets.specs.Brackets.{strand_name};
 
 use arc_pairing::{Node, NodeFault, Pairing, Term};
 use root_quantum::Params;

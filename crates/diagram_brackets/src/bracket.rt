@@ -2,7 +2,7 @@
 
 ghost use Rattle.std.specs.Prelude.{◌≡◌, ◌≤◌, IfOk, length};
 ghost use Rattle.state_sums.specs.Networks.{WeightsBelow};
-ghost use Rattle.skein_network.specs.Brackets.{bracket_network};
+ghost use Rattle.diagram_brackets.specs.Brackets.{bracket_network};
 
 use crate::crossing::crossing_node;
 use arc_pairing::{Network, NetworkFault};

@@ -18,8 +18,8 @@ use Rattle.pd_reader.specs.Items.{item_labels}
 use Rattle.pd_reader.specs.Diagrams.{labels, times, IsLabel}
 use Rattle.arc_pairing.specs.Counts.{StandsTwice, IsLeastMiscount}
 use Rattle.root_quantum.specs.QuantumNumbers.{inverse_root}
-use Rattle.skein_network.specs.Crossings.{crossing_node, joins_ab_cd, joins_ad_bc}
-use Rattle.skein_network.specs.Brackets.{strand_name, crossing_nodes, loop_count}
+use Rattle.diagram_brackets.specs.Crossings.{crossing_node, joins_ab_cd, joins_ad_bc}
+use Rattle.diagram_brackets.specs.Brackets.{strand_name, crossing_nodes, loop_count}
 use Rattle.list_lemmas.specs.Times.{times_in}
 
 crossing_nodes-append : (p : Parameters) (group : ℕ) (xs ys : List Item) →

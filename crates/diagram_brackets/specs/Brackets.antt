@@ -15,7 +15,7 @@ use Rattle.root_quantum.specs.Parameters.{Parameters}
 use Rattle.root_quantum.specs.QuantumNumbers.{loop_value}
 use Rattle.pd_reader.specs.declared.item.Item.{Item}
 use Rattle.pd_reader.specs.declared.item.Item.TheVariants.{X, Loop}
-use Rattle.skein_network.specs.Crossings.{crossing_node}
+use Rattle.diagram_brackets.specs.Crossings.{crossing_node}
 
 -- The name of the one strand of an edge.
 abbrev pub strand_name : ℕ → ℕ

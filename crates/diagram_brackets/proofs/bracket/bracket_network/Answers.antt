@@ -2,10 +2,10 @@ use Rattle.std.proofs.Common.{take, ◌≡◌, ◌+◌, ◌++◌, ◌∷◌, [],
 use Rattle.state_sums.specs.Networks.{names_of, WeightsBelow}
 use Rattle.pd_reader.specs.declared.item.Item.TheVariants.{X, Loop}
 use Rattle.arc_pairing.specs.Counts.{StandsTwice}
-use Rattle.skein_network.specs.Brackets.{crossing_nodes}
-use Rattle.skein_network.proofs.Strands.{one_crossing, one_loop, loops_more, slots_within, stands_twice, never_miscounted, weights_below}
-use Rattle.skein_network.proofs.bracket.bracket_network.Goals as goal
-use Rattle.skein_network.proofs.bracket.bracket_network.Goals.{in-X+in_ok-crossing_node-in-X+in_ok-push-in-X, in-Loop}
+use Rattle.diagram_brackets.specs.Brackets.{crossing_nodes}
+use Rattle.diagram_brackets.proofs.Strands.{one_crossing, one_loop, loops_more, slots_within, stands_twice, never_miscounted, weights_below}
+use Rattle.diagram_brackets.proofs.bracket.bracket_network.Goals as goal
+use Rattle.diagram_brackets.proofs.bracket.bracket_network.Goals.{in-X+in_ok-crossing_node-in-X+in_ok-push-in-X, in-Loop}
 
 pub crossing_node-requires : goal.crossing_node-requires
 crossing_node-requires c =
