@@ -25,7 +25,7 @@ use Rattle.planar_check.specs.Tables.{IsWithin}
 use Rattle.planar_check.specs.Signs.{is_plus, is_between, signed_crossings, signs_between, halved, linking}
 use Rattle.planar_check.proofs.CrossingComponents.{crossings_within}
 use Rattle.coloured_values.specs.Surgery.{kirby, omega_sum, matrix_of, component_count, plus_count, minus_count, omega_inverse, surgery}
-use Rattle.coloured_values.specs.Laws.{IsAddedLabel, blown_up, BlownUpMatrixLaw, BlowUpLaw}
+use Rattle.coloured_values.specs.Laws.{IsAddedLabel, blown_up, BlownUpMatrixLaw, BlowUpKeepsSurgeryLaw}
 use Rattle.coloured_values.proofs.AddedComponents.{least_labels-added}
 use Rattle.coloured_values.proofs.AddedCrossings.{once, none_linked, signed_crossings-added}
 use Rattle.coloured_values.proofs.AddedSums.{added_sum}
@@ -169,7 +169,7 @@ counts diagram label e is_diagram count new =
     (ap₂ (λ k a. positives k (λ i. (eliminated k a).m i i)) size matrix ∙ rule.0, ap₂ (λ k a. negatives k (λ i. (eliminated k a).m i i)) size matrix ∙ rule.1)
 
 -- A BLOW-UP KEEPS THE SURGERY VALUE
-pub blow_up : BlowUpLaw
+pub blow_up : BlowUpKeepsSurgeryLaw
 unfolding surgery power
 blow_up p diagram label e sign is_diagram count new has =
     let m = p.modulus in
