@@ -12,6 +12,7 @@ use Rattle.ring_identities.proofs.Identities.{reads, by_ring}
 use Rattle.ring_identities.proofs.Unities.{unity_congruent}
 use Rattle.inertia_laws.specs.Certificates.{positives, negatives, bordered}
 use Rattle.inertia_laws.specs.Elimination.{eliminated}
+use Rattle.inertia_laws.specs.Indices.{positive_index, negative_index}
 use Rattle.inertia_laws.specs.Laws.{IsSymmetric}
 use Rattle.inertia_laws.specs.Matrices.{is_positive, is_negative}
 use Rattle.inertia_laws.proofs.Clearing.{bordered_inertia}
@@ -156,6 +157,7 @@ blown_up_matrix diagram label e is_diagram count new = λ k i j. entry_is diagra
 -- ---- the counts
 counts : (diagram : FramedDiagram) (label : ℕ) (e : ℤ) → IsDiagram diagram.items → length diagram.framings ≡ component_count diagram → IsAddedLabel diagram.items label →
     (plus_count (blown_up diagram label e) ≡ plus_count diagram + (if is_positive e then 1 else 0)) × (minus_count (blown_up diagram label e) ≡ minus_count diagram + (if is_negative e then 1 else 0))
+unfolding positive_index negative_index
 counts diagram label e is_diagram count new =
     let n = component_count diagram in
     let l = matrix_of diagram in
