@@ -6,14 +6,14 @@ use Rattle.graph_parts.proofs.Ends.{is_member-itself}
 use Rattle.state_sums.specs.Networks.{IsNode, names_of}
 use Rattle.cables.specs.Strands.{Strands, strands_of}
 use Rattle.cables.specs.Cables.{cable_nodes, start}
-use Rattle.cables.specs.Laws.{CableNetworkLaw}
+use Rattle.cables.specs.Laws.{CableIsNetworkLaw}
 use Rattle.cables.proofs.CableCounts.{cable_length, loops_length}
 use Rattle.cables.proofs.CableIsNodes.{IsGood, cable_good}
 use Rattle.cables.proofs.CableTwice.{cable_twice, cable_short}
 use Rattle.cables.proofs.NumberedStrands.{first_length, as_many_strands}
 
 -- THE CABLE IS A NETWORK
-pub cable_network : CableNetworkLaw
+pub cable_network : CableIsNetworkLaw
 cable_network p colour boxed box items net few boxes fits =
     let strands : Strands = strands_of colour boxed box in
     let even = as_many_strands colour boxed box in

@@ -1,56 +1,26 @@
--- Group numbers do not matter: no sum reads them.
-use Rattle.std.proofs.Common.{◌≡◌, ℕ, ◌+◌, ◌*◌, ◌%◌, ◌^◌, ◌==◌, ◌&&◌, not, List, [], ◌∷◌, ◌++◌, map, length, reverse, refl, sym, ap, ap₂, ◌∙◌}
+-- Where an item stands among the others changes the groups of its nodes alone: each kind of nodes is the same but for the group.
+use Rattle.std.proofs.Common.{◌≡◌, ℕ, ◌+◌, ◌==◌, ◌&&◌, not, List, [], ◌∷◌, ◌++◌, map, length, reverse, refl, sym, ap, ap₂, ◌∙◌}
+use Rattle.std.proofs.lemmas.List.{map-append}
 use Rattle.std.specs.List.{filter, range_with_len}
 use Rattle.std.specs.Set.{is_member}
-use Rattle.graph_parts.specs.Parts.{part_count}
-use Rattle.state_sums.specs.Networks.{Node, names_of}
-use Rattle.state_sums.specs.StateSums.{value, state_sum}
-use Rattle.state_sums.proofs.StateSums.{state_sum-nested}
-use Rattle.state_sums.proofs.Sums.{total}
-use Rattle.list_lemmas.proofs.Sums.{sum_by_same}
+use Rattle.state_sums.specs.Networks.{Node}
 use Rattle.root_quantum.specs.Parameters.{Parameters}
 use Rattle.pd_reader.specs.declared.item.NetItem.{NetItem}
 use Rattle.pd_reader.specs.declared.item.NetItem.TheVariants.{X, Y, Loop}
 use Rattle.diagram_brackets.specs.Crossings.{crossing_node}
+use Rattle.piece_laws.specs.TurnedNodes.{without_group}
 use Rattle.cables.specs.Strands.{Strands, names_at}
 use Rattle.cables.specs.CableNodes.{line_names, upright_names, row, grid, crossing_cable, vertex_cable, box_node}
 use Rattle.cables.specs.Cables.{Standing, passed, past_all, box_nodes, loop_nodes, item_nodes, cable_nodes}
-use Rattle.cables.specs.Laws.{ungrouped, GroupLaw, OtherGroupsLaw}
+use Rattle.cables.specs.Laws.{OtherGroupsLaw}
 
-total-ungrouped : (nodes : List Node) (f : List (ℕ × ℕ) → ℕ) → total (map ungrouped nodes) f ≡ total nodes f
-total-ungrouped [] f = refl
-total-ungrouped (node ∷ nodes) f = sum_by_same _ _ node.terms (λ term. ap (λ n. term.weight * n) (total-ungrouped nodes _))
-
-names-ungrouped : (nodes : List Node) → names_of (map ungrouped nodes) ≡ names_of nodes
-names-ungrouped [] = refl
-names-ungrouped (node ∷ nodes) = ap (λ xs. node.ends ++ xs) (names-ungrouped nodes)
-
-state_sum-ungrouped : (delta free : ℕ) (nodes : List Node) → state_sum delta record { nodes = map ungrouped nodes; free_loops = free } ≡ state_sum delta record { nodes = nodes; free_loops = free }
-state_sum-ungrouped delta free nodes =
-    state_sum-nested delta (map ungrouped nodes) free
-    ∙ total-ungrouped nodes (λ es. delta ^ (part_count (names_of (map ungrouped nodes)) es + free))
-    ∙ ap (λ ns. total nodes (λ es. delta ^ (part_count ns es + free))) (names-ungrouped nodes)
-    ∙ sym (state_sum-nested delta nodes free)
-
--- GROUPS DO NOT MATTER
-pub group_law : GroupLaw
-unfolding value
-group_law m delta free nodes others same =
-    ap (λ k. k % m)
-    (sym (state_sum-ungrouped delta free nodes) ∙ ap (λ ns. state_sum delta record { nodes = ns; free_loops = free }) same ∙ state_sum-ungrouped delta free others)
-
--- ---- the nodes of items, at other group numbers
-ungrouped-append : (ns ms : List Node) → map ungrouped (ns ++ ms) ≡ map ungrouped ns ++ map ungrouped ms
-ungrouped-append [] ms = refl
-ungrouped-append (n ∷ ns) ms = ap (λ xs. ungrouped n ∷ xs) (ungrouped-append ns ms)
-
-row_same : (p : Parameters) (g h : ℕ) (bottoms line tops : List ℕ) (west : ℕ) → map ungrouped (row p g bottoms west line tops) ≡ map ungrouped (row p h bottoms west line tops)
+row_same : (p : Parameters) (g h : ℕ) (bottoms line tops : List ℕ) (west : ℕ) → map without_group (row p g bottoms west line tops) ≡ map without_group (row p h bottoms west line tops)
 row_same p g h [] line tops west = refl
 row_same p g h (b ∷ bottoms) [] tops west = refl
 row_same p g h (b ∷ bottoms) (e ∷ line) [] west = refl
 row_same p g h (b ∷ bottoms) (e ∷ line) (t ∷ tops) west = ap (λ xs. crossing_node p 0 (b ∷ e ∷ t ∷ west ∷ []) ∷ xs) (row_same p g h bottoms line tops e)
 
-grid_same : (p : Parameters) (g h k u i : ℕ) (bottoms wests easts north : List ℕ) → map ungrouped (grid p g k u i bottoms wests easts north) ≡ map ungrouped (grid p h k u i bottoms wests easts north)
+grid_same : (p : Parameters) (g h k u i : ℕ) (bottoms wests easts north : List ℕ) → map without_group (grid p g k u i bottoms wests easts north) ≡ map without_group (grid p h k u i bottoms wests easts north)
 grid_same p g h k u i bottoms [] easts north = refl
 grid_same p g h k u i bottoms (w ∷ []) [] north = refl
 grid_same p g h k u i bottoms (w ∷ []) (e ∷ easts) north = row_same p g h bottoms (line_names k u i ++ e ∷ []) north w
@@ -58,17 +28,17 @@ grid_same p g h k u i bottoms (w ∷ v ∷ wests) [] north = refl
 grid_same p g h k u i bottoms (w ∷ v ∷ wests) (e ∷ easts) north =
     let tops = upright_names k u i in
     let line = line_names k u i ++ e ∷ [] in
-    ungrouped-append (row p g bottoms w line tops) (grid p g k u (i + 1) tops (v ∷ wests) easts north)
+    map-append without_group (row p g bottoms w line tops) (grid p g k u (i + 1) tops (v ∷ wests) easts north)
     ∙ ap₂ (λ x y. x ++ y) (row_same p g h bottoms line tops w) (grid_same p g h k u (i + 1) tops (v ∷ wests) easts north)
-    ∙ sym (ungrouped-append (row p h bottoms w line tops) (grid p h k u (i + 1) tops (v ∷ wests) easts north))
+    ∙ sym (map-append without_group (row p h bottoms w line tops) (grid p h k u (i + 1) tops (v ∷ wests) easts north))
 
-crossing_same : (p : Parameters) (g h k : ℕ) (a b c d : List ℕ) → map ungrouped (crossing_cable p g k a b c d) ≡ map ungrouped (crossing_cable p h k a b c d)
+crossing_same : (p : Parameters) (g h k : ℕ) (a b c d : List ℕ) → map without_group (crossing_cable p g k a b c d) ≡ map without_group (crossing_cable p h k a b c d)
 crossing_same p g h k [] [] c d = refl
 crossing_same p g h k [] (b ∷ others) c d = refl
 crossing_same p g h k (a ∷ more) [] c d = refl
 crossing_same p g h k (a ∷ more) (b ∷ others) c d = grid_same p g h k _ 0 (a ∷ more) (reverse d) (b ∷ others) (reverse c)
 
-vertex_same : (g h : ℕ) (x y z : List ℕ) → map ungrouped (vertex_cable g x y z) ≡ map ungrouped (vertex_cable h x y z)
+vertex_same : (g h : ℕ) (x y z : List ℕ) → map without_group (vertex_cable g x y z) ≡ map without_group (vertex_cable h x y z)
 vertex_same g h [] [] [] = refl
 vertex_same g h [] [] (c ∷ z) = refl
 vertex_same g h [] (b ∷ y) [] = refl
@@ -79,21 +49,21 @@ vertex_same g h (a ∷ x) (b ∷ y) [] = refl
 vertex_same g h (a ∷ x) (b ∷ y) (c ∷ z) = refl
 
 module _ (p : Parameters) (strands : Strands) where
-  loop_same : (g h : ℕ) (names : List ℕ) → map ungrouped (loop_nodes strands g names) ≡ map ungrouped (loop_nodes strands h names)
+  loop_same : (g h : ℕ) (names : List ℕ) → map without_group (loop_nodes strands g names) ≡ map without_group (loop_nodes strands h names)
   loop_same g h [] = refl
   loop_same g h (x ∷ []) = refl
   loop_same g h (x ∷ y ∷ names) = refl
 
   boxes_same : (g h : ℕ) (ls : List ℕ) →
-      map ungrouped (map (λ label. box_node g (strands.box (length (strands.first label))) (strands.first label) (strands.second label)) ls)
-      ≡ map ungrouped (map (λ label. box_node h (strands.box (length (strands.first label))) (strands.first label) (strands.second label)) ls)
+      map without_group (map (λ label. box_node g (strands.box (length (strands.first label))) (strands.first label) (strands.second label)) ls)
+      ≡ map without_group (map (λ label. box_node h (strands.box (length (strands.first label))) (strands.first label) (strands.second label)) ls)
   boxes_same g h [] = refl
   boxes_same g h (l ∷ ls) = ap (λ xs. box_node 0 (strands.box (length (strands.first l))) (strands.first l) (strands.second l) ∷ xs) (boxes_same g h ls)
 
-  both_same : (a b c d : List Node) → map ungrouped a ≡ map ungrouped c → map ungrouped b ≡ map ungrouped d → map ungrouped (a ++ b) ≡ map ungrouped (c ++ d)
-  both_same a b c d e f = ungrouped-append a b ∙ ap₂ (λ x y. x ++ y) e f ∙ sym (ungrouped-append c d)
+  both_same : (a b c d : List Node) → map without_group a ≡ map without_group c → map without_group b ≡ map without_group d → map without_group (a ++ b) ≡ map without_group (c ++ d)
+  both_same a b c d e f = map-append without_group a b ∙ ap₂ (λ x y. x ++ y) e f ∙ sym (map-append without_group c d)
 
-  item_same : (standing : Standing) (g l : ℕ) (item : NetItem) → map ungrouped (item_nodes p strands (record standing { group = g; loop_group = l }) item) ≡ map ungrouped (item_nodes p strands standing item)
+  item_same : (standing : Standing) (g l : ℕ) (item : NetItem) → map without_group (item_nodes p strands (record standing { group = g; loop_group = l }) item) ≡ map without_group (item_nodes p strands standing item)
   item_same standing g l (X (a ∷ b ∷ c ∷ d ∷ [])) =
       let seen = standing.seen in
       let slots = a ∷ b ∷ c ∷ d ∷ [] in
@@ -119,7 +89,7 @@ module _ (p : Parameters) (strands : Strands) where
   item_same standing g l (Y (a ∷ b ∷ c ∷ d ∷ edges)) = refl
   item_same standing g l (Loop label) = loop_same l standing.loop_group (strands.first label)
 
-  nodes_same : (standing : Standing) (g l : ℕ) (items : List NetItem) → map ungrouped (cable_nodes p strands (record standing { group = g; loop_group = l }) items) ≡ map ungrouped (cable_nodes p strands standing items)
+  nodes_same : (standing : Standing) (g l : ℕ) (items : List NetItem) → map without_group (cable_nodes p strands (record standing { group = g; loop_group = l }) items) ≡ map without_group (cable_nodes p strands standing items)
   nodes_same standing g l [] = refl
   nodes_same standing g l (X slots ∷ items) =
       both_same (item_nodes p strands (record standing { group = g; loop_group = l }) (X slots)) (cable_nodes p strands (passed (record standing { group = g; loop_group = l }) (X slots)) items) (item_nodes p strands standing (X slots)) (cable_nodes p strands (passed standing (X slots)) items)

@@ -15,7 +15,7 @@ use Rattle.std.proofs.lemmas.List.FromFn.{length-map-range_with_len}
 use Rattle.cables.specs.Strands.{strands_of, first_names}
 use Rattle.cables.specs.CableNodes.{box_node}
 use Rattle.cables.specs.Cables.{loop_nodes, loops_at}
-use Rattle.cables.specs.Laws.{LoopLaw}
+use Rattle.cables.specs.Laws.{LoopOfStrandsLaw}
 use Rattle.box_laws.proofs.ClosedBoxes.{closed_box}
 
 -- The box of a loop is the closure of its element.
@@ -32,7 +32,7 @@ unfolding delta
 delta_is p n = refl
 
 -- A LOOP OF n STRANDS IS WORTH Delta_n
-pub loop_law : LoopLaw
+pub loop_law : LoopOfStrandsLaw
 loop_law p box n group label few projector = by_colour n few projector
   where
     some_modulus : 0 < p.modulus

@@ -9,7 +9,7 @@ use Rattle.pd_reader.specs.declared.item.NetItem.TheVariants.{X, Y, Loop}
 use Rattle.pd_reader.specs.Items.{HasItsEdges}
 use Rattle.cables.specs.Cables.{Fits, IsAdmissible}
 use Rattle.cables.specs.Nets.{projector_of, net_strands, is_admissible, first_unequal, first_inadmissible}
-use Rattle.cables.specs.Laws.{NetNetworkLaw}
+use Rattle.cables.specs.Laws.{NetCableIsNetworkLaw}
 use Rattle.cables.proofs.CableLaws.{cable_network}
 use Rattle.cables.proofs.NumberedStrands.{first_length}
 use Rattle.cables.proofs.ProjectorBoxes.{projector_boxes}
@@ -66,6 +66,6 @@ module _ (p : Parameters) (colour : ℕ → ℕ) where
   net_fits (Loop label ∷ items) number sizes u v = (tt, net_fits items number sizes.1 u v)
 
 -- THE CABLE OF A NET
-pub net_network : NetNetworkLaw
+pub net_network : NetCableIsNetworkLaw
 net_network p items colour net few u v =
     cable_network p colour (λ label. nat_le 2 (colour label)) (projector_of p) items net few (projector_boxes p) (net_fits p colour items 1 net.sizes u v)

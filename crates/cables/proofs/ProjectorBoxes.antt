@@ -10,7 +10,7 @@ use Rattle.strand_algebra.proofs.ByLabels.{IsPairingOn-from_points}
 use Rattle.strand_algebra.proofs.LabelProducts.{IsPairingOf}
 use Rattle.strand_algebra.proofs.Operations.{IsElement-identity, IsElement-add}
 use Rattle.cables.specs.Nets.{projector_of}
-use Rattle.cables.specs.Laws.{ProjectorBoxesLaw}
+use Rattle.cables.specs.Laws.{ProjectorsAreBoxesLaw}
 use Rattle.box_laws.proofs.ClosedBoxes.{element_pairings}
 
 is_element : (m delta : ℕ) (inverse : ℕ → ℕ) (n : ℕ) → 0 < m → IsElement m n (projector m delta inverse n)
@@ -30,7 +30,7 @@ unfolding found_projector
 found_element p n = is_element p.modulus (loop_value p) (λ k. inverse_of p.modulus (quantum_residue p.modulus (loop_value p) k)) n (let h = p.meets.modulus.0 in omega (arith, h))
 
 -- PROJECTORS ARE BOXES
-pub projector_boxes : ProjectorBoxesLaw
+pub projector_boxes : ProjectorsAreBoxesLaw
 projector_boxes p = record {
   pairings = λ n.
       All-weaker (λ (term : Term). IsPairingOf (n + n) term.partner) (λ (term : Term). IsPairing term.partner × (length term.partner ≡ n + n))

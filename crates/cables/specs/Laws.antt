@@ -4,10 +4,11 @@
 --                                  names below 2^32
 use Rattle.std.specs.Prelude.{◌≡◌, ℕ, ◌^◌, ◌*◌, ◌%◌, ◌<◌, ◌≤◌, Bool, false, List, [], ◌∷◌, ◌++◌, length, map, ◌+◌, None}
 use Rattle.std.specs.List.{All, AllByRecursion}
-use Rattle.state_sums.specs.Networks.{Term, Node, Network, IsNetwork, WeightsBelow, names_of}
+use Rattle.state_sums.specs.Networks.{Term, Network, IsNetwork, WeightsBelow, names_of}
 use Rattle.root_quantum.specs.Parameters.{Parameters}
 use Rattle.state_sums.specs.LocalSums.{rename}
 use Rattle.state_sums.specs.StateSums.{value}
+use Rattle.piece_laws.specs.TurnedNodes.{without_group}
 use Rattle.pd_reader.specs.declared.item.Item.{Item}
 use Rattle.pd_reader.specs.declared.item.NetItem.{NetItem}
 use Rattle.pd_reader.specs.declared.item.NetItem.TheVariants.{Loop}
@@ -30,8 +31,8 @@ pub record IsSmallNetwork (m : ℕ) (network : Network) : Type 0 where
   pub short_names : All (λ name. name < 2 ^ 32) (names_of network.nodes)
 
 -- The cable of a net is such a network, where colours are at most 8 and fit its items.
-abbrev pub CableNetworkLaw : Type 0
-CableNetworkLaw =
+abbrev pub CableIsNetworkLaw : Type 0
+CableIsNetworkLaw =
     (p : Parameters) (colour : ℕ → ℕ) (boxed : ℕ → Bool) (box : ℕ → List Term) (items : List NetItem) →
     IsNet items → ((label : ℕ) → colour label ≤ 8) → AreBoxes p.modulus box → AllByRecursion (Fits (strands_of colour boxed box)) items →
     IsSmallNetwork p.modulus (cable p (strands_of colour boxed box) items)
@@ -50,20 +51,11 @@ RenamedCableLaw =
     ((offset : ℕ) → new_name (2 ^ 25 + 128 * standing.index + offset) ≡ 2 ^ 25 + 128 * index + offset) →
     cable_nodes p (renamed_strands new_name strands) (record standing { index = index }) items ≡ rename new_name (cable_nodes p strands standing items)
 
--- A node without its group number.
-abbrev pub ungrouped : Node → Node
-ungrouped node = record { group = 0; ends = node.ends; terms = node.terms }
-
--- Group numbers do not matter for the value, and where an item stands changes nothing else.
-abbrev pub GroupLaw : Type 0
-GroupLaw =
-    (m delta free : ℕ) (nodes others : List Node) → map ungrouped nodes ≡ map ungrouped others →
-    value m delta record { nodes = nodes; free_loops = free } ≡ value m delta record { nodes = others; free_loops = free }
-
+-- Items that stand at other group numbers have the same nodes, but for these numbers.
 abbrev pub OtherGroupsLaw : Type 0
 OtherGroupsLaw =
     (p : Parameters) (strands : Strands) (standing : Standing) (group loop_group : ℕ) (items : List NetItem) →
-    map ungrouped (cable_nodes p strands (record standing { group = group; loop_group = loop_group }) items) ≡ map ungrouped (cable_nodes p strands standing items)
+    map without_group (cable_nodes p strands (record standing { group = group; loop_group = loop_group }) items) ≡ map without_group (cable_nodes p strands standing items)
 
 -- Where the two places of some labels are exchanged, the value stays; a box then has its sides exchanged too.
 abbrev pub ExchangedPlacesLaw : Type 0
@@ -73,8 +65,8 @@ ExchangedPlacesLaw =
     value m delta (cable p (exchanged (strands_of colour boxed box) chosen) items) ≡ value m delta (cable p (strands_of colour boxed box) items)
 
 -- The value of a loop's cable alone: Delta_n for n strands.
-abbrev pub LoopLaw : Type 0
-LoopLaw =
+abbrev pub LoopOfStrandsLaw : Type 0
+LoopOfStrandsLaw =
     (p : Parameters) (box : ℕ → List Term) (n group label : ℕ) → n ≤ 8 → IsProjector p.modulus (loop_value p) n (box n) →
     value p.modulus (loop_value p) record { nodes = loop_nodes (strands_of (λ l. n) (λ l. false) box) group (first_names n label); free_loops = loops_at (first_names n label) }
     ≡ delta p n
@@ -89,11 +81,11 @@ AddedLoopLaw =
     ≡ value p.modulus (loop_value p) (cable p (strands_of colour boxed box) items) * delta p (colour label) % p.modulus
 
 -- The terms of projectors are terms of boxes, whatever the modulus.
-abbrev pub ProjectorBoxesLaw : Type 0
-ProjectorBoxesLaw = (p : Parameters) → AreBoxes p.modulus (projector_of p)
+abbrev pub ProjectorsAreBoxesLaw : Type 0
+ProjectorsAreBoxesLaw = (p : Parameters) → AreBoxes p.modulus (projector_of p)
 
 -- The cable of a net is a network, where no crossing changes a colour and each vertex is admissible.
-abbrev pub NetNetworkLaw : Type 0
-NetNetworkLaw =
+abbrev pub NetCableIsNetworkLaw : Type 0
+NetCableIsNetworkLaw =
     (p : Parameters) (items : List NetItem) (colour : ℕ → ℕ) → IsNet items → ((label : ℕ) → colour label ≤ 8) →
     first_unequal colour items ≡ None → first_inadmissible colour 1 items ≡ None → IsSmallNetwork p.modulus (cabled_net p items colour)

@@ -1,20 +1,20 @@
 //! The laws of cables: each function has an empty body, and its contract is the law. They are stated in `specs/Laws.antt`.
 
-ghost use Rattle.cables.specs.Laws.{CableNetworkLaw, NetNetworkLaw, ProjectorBoxesLaw, PlainCableLaw, RenamedCableLaw, GroupLaw, OtherGroupsLaw, ExchangedPlacesLaw, LoopLaw, AddedLoopLaw};
+ghost use Rattle.cables.specs.Laws.{CableIsNetworkLaw, NetCableIsNetworkLaw, ProjectorsAreBoxesLaw, PlainCableLaw, RenamedCableLaw, OtherGroupsLaw, ExchangedPlacesLaw, LoopOfStrandsLaw, AddedLoopLaw};
 
 /// The cable of a net whose colours are at most 8 and fit its items is a network within the limits of the types.
 pub fn cable_is_network()
-    ensures { CableNetworkLaw }
+    ensures { CableIsNetworkLaw }
 {}
 
 /// The cable of a net is a network where no crossing changes a colour and each vertex is admissible.
 pub fn net_cable_is_network()
-    ensures { NetNetworkLaw }
+    ensures { NetCableIsNetworkLaw }
 {}
 
 /// The terms of a projector pair all ends of a box, with weights below m.
 pub fn projectors_are_boxes()
-    ensures { ProjectorBoxesLaw }
+    ensures { ProjectorsAreBoxesLaw }
 {}
 
 /// With all colours 1 the cable of a diagram is the network of its bracket.
@@ -27,12 +27,8 @@ pub fn renamed_cable()
     ensures { RenamedCableLaw }
 {}
 
-/// Group numbers do not matter for the value.
-pub fn any_groups()
-    ensures { GroupLaw }
-{}
-
-/// Items that stand at other group numbers have the same nodes, but for these numbers.
+/// Items that stand at other group numbers have the same nodes, but for these numbers; and these change no value (`groups` of
+/// `piece_laws`).
 pub fn other_groups()
     ensures { OtherGroupsLaw }
 {}
@@ -44,7 +40,7 @@ pub fn exchanged_places()
 
 /// A loop of n strands is worth `Delta_n` (Lickorish, ch. 13).
 pub fn loop_of_strands()
-    ensures { LoopLaw }
+    ensures { LoopOfStrandsLaw }
 {}
 
 /// A loop with a new label behind the items multiplies the value by `Delta_n`.

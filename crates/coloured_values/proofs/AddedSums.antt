@@ -17,7 +17,7 @@ use Rattle.planar_check.specs.Signs.{writhe}
 use Rattle.cables.specs.Nets.{HasProjector}
 use Rattle.coloured_values.specs.Coloured.{coloured, twists, framed}
 use Rattle.coloured_values.specs.Surgery.{colour_lists, deltas, sum_over, kirby, omega_sum}
-use Rattle.coloured_values.specs.Laws.{IsAddedLabel, AddedSumLaw}
+use Rattle.coloured_values.specs.Laws.{IsAddedLabel, AddedFramedLoopLaw}
 use Rattle.coloured_values.proofs.AddedComponents.{least_labels-added}
 use Rattle.coloured_values.proofs.AddedCrossings.{writhe-added, writhe-last}
 use Rattle.coloured_values.proofs.ColouredLaws.{added_component}
@@ -189,7 +189,7 @@ palette p (n ∷ colours) a b =
     ((low, b.0), palette p colours (All-tail (λ k. k ≤ greatest_colour p) n colours a) b.1)
 
 -- A FRAMED LOOP MORE
-pub added_sum : AddedSumLaw
+pub added_sum : AddedFramedLoopLaw
 unfolding kirby omega_sum residue
 added_sum p items framings label e diagram count new projectors =
     let m = p.modulus in

@@ -12,6 +12,7 @@ use Rattle.ring_identities.proofs.Identities.{reads, by_ring}
 use Rattle.ring_identities.proofs.Unities.{unity_congruent}
 use Rattle.inertia_laws.specs.Certificates.{positives, negatives, bordered}
 use Rattle.inertia_laws.specs.Elimination.{eliminated}
+use Rattle.inertia_laws.specs.Indices.{positive_index, negative_index}
 use Rattle.inertia_laws.specs.Laws.{IsSymmetric}
 use Rattle.inertia_laws.specs.Matrices.{is_positive, is_negative}
 use Rattle.inertia_laws.proofs.Clearing.{bordered_inertia}
@@ -25,7 +26,7 @@ use Rattle.planar_check.specs.Tables.{IsWithin}
 use Rattle.planar_check.specs.Signs.{is_plus, is_between, signed_crossings, signs_between, halved, linking}
 use Rattle.planar_check.proofs.CrossingComponents.{crossings_within}
 use Rattle.coloured_values.specs.Surgery.{kirby, omega_sum, matrix_of, component_count, plus_count, minus_count, omega_inverse, surgery}
-use Rattle.coloured_values.specs.Laws.{IsAddedLabel, blown_up, BlownUpMatrixLaw, BlowUpLaw}
+use Rattle.coloured_values.specs.Laws.{IsAddedLabel, blown_up, BlownUpMatrixLaw, BlowUpKeepsSurgeryLaw}
 use Rattle.coloured_values.proofs.AddedComponents.{least_labels-added}
 use Rattle.coloured_values.proofs.AddedCrossings.{once, none_linked, signed_crossings-added}
 use Rattle.coloured_values.proofs.AddedSums.{added_sum}
@@ -156,6 +157,7 @@ blown_up_matrix diagram label e is_diagram count new = λ k i j. entry_is diagra
 -- ---- the counts
 counts : (diagram : FramedDiagram) (label : ℕ) (e : ℤ) → IsDiagram diagram.items → length diagram.framings ≡ component_count diagram → IsAddedLabel diagram.items label →
     (plus_count (blown_up diagram label e) ≡ plus_count diagram + (if is_positive e then 1 else 0)) × (minus_count (blown_up diagram label e) ≡ minus_count diagram + (if is_negative e then 1 else 0))
+unfolding positive_index negative_index
 counts diagram label e is_diagram count new =
     let n = component_count diagram in
     let l = matrix_of diagram in
@@ -169,7 +171,7 @@ counts diagram label e is_diagram count new =
     (ap₂ (λ k a. positives k (λ i. (eliminated k a).m i i)) size matrix ∙ rule.0, ap₂ (λ k a. negatives k (λ i. (eliminated k a).m i i)) size matrix ∙ rule.1)
 
 -- A BLOW-UP KEEPS THE SURGERY VALUE
-pub blow_up : BlowUpLaw
+pub blow_up : BlowUpKeepsSurgeryLaw
 unfolding surgery power
 blow_up p diagram label e sign is_diagram count new has =
     let m = p.modulus in

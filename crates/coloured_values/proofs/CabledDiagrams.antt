@@ -21,7 +21,7 @@ use Rattle.cables.proofs.CableLaws.{cable_network}
 use Rattle.cables.proofs.NumberedStrands.{first_length}
 use Rattle.cables.proofs.ProjectorBoxes.{projector_boxes}
 use Rattle.coloured_values.specs.Coloured.{colour_of, is_boxed, diagram_strands}
-use Rattle.coloured_values.specs.Laws.{CabledNetworkLaw}
+use Rattle.coloured_values.specs.Laws.{CabledDiagramIsNetworkLaw}
 
 pub labels-as_net : (items : List Item) → labels net_item_labels (as_net items) ≡ labels item_labels items
 labels-as_net [] = refl
@@ -115,7 +115,7 @@ diagram_fits p items colours sizes =
         number_by items least = count_by (λ first. nat_le first least) (least_labels items)
 
 -- THE CABLE OF A DIAGRAM IS A NETWORK
-pub cabled_network : CabledNetworkLaw
+pub cabled_network : CabledDiagramIsNetworkLaw
 cabled_network p items colours diagram has =
     cable_network p (colour_of items colours) (is_boxed items colours) (projector_of p) (as_net items) (IsNet-as_net items diagram) (few_colours items colours has.few) (projector_boxes p)
     (diagram_fits p items colours diagram.sizes)

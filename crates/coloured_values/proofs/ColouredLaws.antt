@@ -29,7 +29,7 @@ use Rattle.cables.proofs.PlainCables.{plain_cable}
 use Rattle.cables.proofs.ProjectorBoxes.{projector_boxes}
 use Rattle.cables.proofs.SameCables.{AreAlike, same_cable}
 use Rattle.coloured_values.specs.Coloured.{colour_of, is_boxed, diagram_strands, coloured}
-use Rattle.coloured_values.specs.Laws.{AllOnesLaw, AddedComponentLaw}
+use Rattle.coloured_values.specs.Laws.{AllColoursOneLaw, AddedComponentLaw}
 use Rattle.coloured_values.proofs.AddedComponents.{component_least-added, number_of-added, number_of-last}
 use Rattle.coloured_values.proofs.CabledDiagrams.{labels-as_net, IsNet-as_net, few_colours, same_least, fits_from}
 
@@ -47,7 +47,7 @@ one_entry (c ∷ colours) h zero l = h.0
 one_entry (c ∷ colours) h (suc i) l = one_entry colours h.1 i (omega (arith, l))
 
 -- ALL COLOURS ONE
-pub all_ones : AllOnesLaw
+pub all_ones : AllColoursOneLaw
 unfolding coloured bracket
 all_ones p items colours diagram count ones =
     let strands : Strands = diagram_strands p items colours in

@@ -20,6 +20,7 @@ use Rattle.strand_algebra.specs.Projectors.{projector, inverse_of, found_project
 use Rattle.coloured_values.specs.Coloured.{cabled, coloured, framed}
 use Rattle.coloured_values.specs.Surgery.{kirby, omega_sum, surgery}
 use Rattle.inertia_laws.specs.Fractions.{reduce, gcd}
+use Rattle.inertia_laws.specs.Indices.{positive_index, negative_index}
 
 no_refusal : refusal All 41 2 5 ≡ None
 unfolding refusal order_up_to power residue
@@ -89,15 +90,15 @@ omegas = refl
 
 -- the unknot framed 0, 1, -1, 2 and 3: S1 x S2, the 3-sphere twice, and two lens spaces
 unknot_surgery : map (λ t. surgery worked record { items = Loop 1 ∷ []; framings = t ∷ [] }) (pos 0 ∷ pos 1 ∷ negsuc 0 ∷ pos 2 ∷ pos 3 ∷ []) ≡ 33 ∷ 1 ∷ 1 ∷ 0 ∷ 12 ∷ []
-unfolding surgery omega_sum kirby framed coloured value part_count part worked loop_value inverse_root power residue found_projector projector quantum_number inverse_of least_labels component_least least_name signed_crossings walk_of other_place twist twist_factor signed_power delta reduce gcd
+unfolding surgery positive_index negative_index omega_sum kirby framed coloured value part_count part worked loop_value inverse_root power residue found_projector projector quantum_number inverse_of least_labels component_least least_name signed_crossings walk_of other_place twist twist_factor signed_power delta reduce gcd
 unknot_surgery = refl
 
 -- over even colours
 even_surgery : map (λ t. surgery worked_even record { items = Loop 1 ∷ []; framings = t ∷ [] }) (pos 0 ∷ pos 1 ∷ negsuc 0 ∷ pos 2 ∷ pos 3 ∷ []) ≡ 37 ∷ 1 ∷ 1 ∷ 6 ∷ 15 ∷ []
-unfolding surgery omega_sum kirby framed coloured value part_count part worked_even loop_value inverse_root power residue found_projector projector quantum_number inverse_of least_labels component_least least_name signed_crossings walk_of other_place twist twist_factor signed_power delta reduce gcd
+unfolding surgery positive_index negative_index omega_sum kirby framed coloured value part_count part worked_even loop_value inverse_root power residue found_projector projector quantum_number inverse_of least_labels component_least least_name signed_crossings walk_of other_place twist twist_factor signed_power delta reduce gcd
 even_surgery = refl
 
 -- the empty diagram
 nothing : surgery worked record { items = []; framings = [] } ≡ 1
-unfolding surgery omega_sum kirby framed coloured value part_count part worked loop_value inverse_root power residue found_projector projector quantum_number inverse_of least_labels component_least least_name signed_crossings walk_of other_place twist twist_factor signed_power delta reduce gcd
+unfolding surgery positive_index negative_index omega_sum kirby framed coloured value part_count part worked loop_value inverse_root power residue found_projector projector quantum_number inverse_of least_labels component_least least_name signed_crossings walk_of other_place twist twist_factor signed_power delta reduce gcd
 nothing = refl

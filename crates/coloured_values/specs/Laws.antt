@@ -33,12 +33,12 @@ pub record IsAddedLabel (items : List Item) (label : ℕ) : Type 0 where
   pub high : label ≤ 2000000
 
 -- The cable of a diagram is a network within the limits of the types.
-abbrev pub CabledNetworkLaw : Type 0
-CabledNetworkLaw = (p : Parameters) (items : List Item) (colours : List ℕ) → IsDiagram items → HasColours items colours → IsSmallNetwork p.modulus (cabled p items colours)
+abbrev pub CabledDiagramIsNetworkLaw : Type 0
+CabledDiagramIsNetworkLaw = (p : Parameters) (items : List Item) (colours : List ℕ) → IsDiagram items → HasColours items colours → IsSmallNetwork p.modulus (cabled p items colours)
 
 -- With all colours 1 the value is the bracket.
-abbrev pub AllOnesLaw : Type 0
-AllOnesLaw =
+abbrev pub AllColoursOneLaw : Type 0
+AllColoursOneLaw =
     (p : Parameters) (items : List Item) (colours : List ℕ) → IsDiagram items → length colours ≡ length (least_labels items) → AllByRecursion (λ colour. colour ≡ 1) colours →
     coloured p items colours ≡ bracket p items
 
@@ -50,8 +50,8 @@ AddedComponentLaw =
 
 -- A loop with a new label, framed e, multiplies the Kirby sum by the sum over all colours n of Delta_n^2 mu_n^e: the heart of
 -- blow-ups, whichever colours are summed over.
-abbrev pub AddedSumLaw : Type 0
-AddedSumLaw =
+abbrev pub AddedFramedLoopLaw : Type 0
+AddedFramedLoopLaw =
     (p : Parameters) (items : List Item) (framings : List ℤ) (label : ℕ) (e : ℤ) →
     IsDiagram items → length framings ≡ length (least_labels items) → IsAddedLabel items label → AllByRecursion (λ n. HasProjector p n) (form_colours p) →
     kirby p (items ++ Loop label ∷ []) (framings ++ e ∷ []) ≡ kirby p items framings * omega_sum p e % p.modulus
@@ -67,8 +67,8 @@ BlownUpMatrixLaw =
     matrix_of (blown_up diagram label e) ≡ bordered (component_count diagram) e (matrix_of diagram)
 
 -- A blow-up keeps the surgery value (Kirby's first move).
-abbrev pub BlowUpLaw : Type 0
-BlowUpLaw =
+abbrev pub BlowUpKeepsSurgeryLaw : Type 0
+BlowUpKeepsSurgeryLaw =
     (p : Parameters) (diagram : FramedDiagram) (label : ℕ) (e : ℤ) → (e ≡ pos 1) ⊎ (e ≡ negsuc 0) →
     IsDiagram diagram.items → length diagram.framings ≡ component_count diagram → IsAddedLabel diagram.items label → HasSurgeryValue p (blown_up diagram label e) →
     surgery p (blown_up diagram label e) ≡ surgery p diagram

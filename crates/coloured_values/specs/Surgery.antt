@@ -4,8 +4,7 @@
 --     deltas p colours            the product of the Delta of the colours
 --     kirby p items framings      over all lists of one colour for each component, that product times the framed value
 --     omega_sum p t               over all colours n, Delta_n^2 mu_n^t: Omega+ at 1, Omega- at -1
---     plus_count diagram, minus_count diagram      b+ and b-: how many entries of the diagonal are above 0 and below 0 that
---                                 the elimination of the linking matrix ends with, over fractions of any size
+--     plus_count diagram, minus_count diagram      b+ and b-: the indices of inertia of the linking matrix
 --     surgery p diagram           the Kirby sum times Omega+ to the power -b+ and Omega- to the power -b-
 --     HasSurgeryValue p diagram   where it exists
 --
@@ -14,9 +13,7 @@ use Rattle.std.specs.Prelude.{ℕ, zero, suc, ◌+◌, ◌<◌, ℤ, pos, negsuc
 use Rattle.std.specs.List.{AllByRecursion, flat_map}
 use Rattle.ring_identities.specs.Residues.{residue}
 use Rattle.ring_identities.specs.Powers.{power, IsInverse}
-use Rattle.inertia_laws.specs.Fractions.{Fraction}
-use Rattle.inertia_laws.specs.Certificates.{positives, negatives}
-use Rattle.inertia_laws.specs.Elimination.{eliminated}
+use Rattle.inertia_laws.specs.Indices.{positive_index, negative_index}
 use Rattle.planar_check.specs.Framings.{FramedDiagram, linking_entry}
 use Rattle.strand_algebra.specs.Projectors.{inverse_of}
 use Rattle.cables.specs.Nets.{HasProjector}
@@ -57,16 +54,12 @@ matrix_of diagram i j = linking_entry diagram (i + 1) (j + 1)
 abbrev pub component_count : FramedDiagram → ℕ
 component_count diagram = length (least_labels diagram.items)
 
--- The diagonal that the elimination ends with.
-abbrev pub diagonal_of : FramedDiagram → ℕ → Fraction
-diagonal_of diagram i = (eliminated (component_count diagram) (matrix_of diagram)).m i i
-
--- b+ and b-: the positive and negative entries of that diagonal.
+-- b+ and b-, the indices of inertia of the linking matrix.
 abbrev pub plus_count : FramedDiagram → ℕ
-plus_count diagram = positives (component_count diagram) (diagonal_of diagram)
+plus_count diagram = positive_index (component_count diagram) (matrix_of diagram)
 
 abbrev pub minus_count : FramedDiagram → ℕ
-minus_count diagram = negatives (component_count diagram) (diagonal_of diagram)
+minus_count diagram = negative_index (component_count diagram) (matrix_of diagram)
 
 -- The inverse of Omega for framing e, found by trying each residue.
 abbrev pub omega_inverse : Parameters → ℤ → ℕ

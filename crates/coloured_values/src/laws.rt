@@ -1,16 +1,16 @@
 //! The laws of coloured diagrams and Kirby sums: each function has an empty body, and its contract is the law. They are stated in
 //! `specs/Laws.antt`.
 
-ghost use Rattle.coloured_values.specs.Laws.{CabledNetworkLaw, AllOnesLaw, AddedComponentLaw, AddedSumLaw, BlownUpMatrixLaw, BlowUpLaw};
+ghost use Rattle.coloured_values.specs.Laws.{CabledDiagramIsNetworkLaw, AllColoursOneLaw, AddedComponentLaw, AddedFramedLoopLaw, BlownUpMatrixLaw, BlowUpKeepsSurgeryLaw};
 
 /// The cable of a diagram is a network within the limits of the types.
 pub fn cabled_diagram_is_network()
-    ensures { CabledNetworkLaw }
+    ensures { CabledDiagramIsNetworkLaw }
 {}
 
 /// With all colours 1 the value is the bracket.
 pub fn all_colours_one()
-    ensures { AllOnesLaw }
+    ensures { AllColoursOneLaw }
 {}
 
 /// A loop with a new label is one component more, the last, and multiplies the value by `Delta_n`.
@@ -20,7 +20,7 @@ pub fn added_component()
 
 /// A framed loop with a new label multiplies the Kirby sum by the sum of `Delta_n^2 mu_n^e` over the colours n.
 pub fn added_framed_loop()
-    ensures { AddedSumLaw }
+    ensures { AddedFramedLoopLaw }
 {}
 
 /// A blow-up borders the linking matrix.
@@ -30,5 +30,5 @@ pub fn blown_up_matrix()
 
 /// A blow-up keeps the surgery value (Kirby's first move).
 pub fn blow_up_keeps_surgery()
-    ensures { BlowUpLaw }
+    ensures { BlowUpKeepsSurgeryLaw }
 {}
