@@ -28,7 +28,7 @@ module _ (p : Parameters) (colour : ℕ → ℕ) where
   long : (label : ℕ) → length ((net_strands p colour).first label) ≡ colour label
   long = first_length colour (λ label. nat_le 2 (colour label)) (projector_of p)
 
-  net_fits : (items : List NetItem) (number : ℕ) → AllByRecursion HasItsEdges items → first_unequal colour items ≡ None → first_inadmissible colour number items ≡ None → AllByRecursion (Fits (net_strands p colour)) items
+  pub net_fits : (items : List NetItem) (number : ℕ) → AllByRecursion HasItsEdges items → first_unequal colour items ≡ None → first_inadmissible colour number items ≡ None → AllByRecursion (Fits (net_strands p colour)) items
   net_fits [] number sizes u v = tt
   net_fits (X (a ∷ b ∷ c ∷ d ∷ []) ∷ items) number sizes u v =
       ⊎_elim

@@ -58,7 +58,7 @@ member-filter p (n ∷ ns) x =
       | false ↦ λ t. grind (arith, nat_tests, ih, same, t)
     ] refl
 
-filter-filter : (p q : ℕ → Bool) (ns : List ℕ) → filter p (filter q ns) ≡ filter (λ x. q x && p x) ns
+pub filter-filter : (p q : ℕ → Bool) (ns : List ℕ) → filter p (filter q ns) ≡ filter (λ x. q x && p x) ns
 filter-filter p q [] = refl
 filter-filter p q (n ∷ ns) =
     elim (q n) as (λ b. filter p (cond b (n ∷ filter q ns) (filter q ns)) ≡ cond (b && p n) (n ∷ filter (λ x. q x && p x) ns) (filter (λ x. q x && p x) ns)) [

@@ -33,8 +33,8 @@ fn listed(alloc: Global, set: &BTreeSet<u32>) -> Result<Vec<u32>, AllocError>
     Ok(found)
 }
 
-/// The different labels of the list, in increasing order.
-pub(crate) fn distinct(alloc: Global, labels: &[u32]) -> Result<Vec<u32>, AllocError>
+/// The different labels of the list, in increasing order. The only error is want of memory.
+pub fn distinct(alloc: Global, labels: &[u32]) -> Result<Vec<u32>, AllocError>
     ensures { IfOk result (λ found. found.items ≡ distinct labels.now) }
 {
     let set = label_set(alloc, labels)?;
@@ -43,7 +43,7 @@ pub(crate) fn distinct(alloc: Global, labels: &[u32]) -> Result<Vec<u32>, AllocE
 }
 
 /// The index at which the label stands in an increasing list of labels, or the length of the list.
-pub(crate) fn rank(names: &[u32], label: u32) -> usize
+pub fn rank(names: &[u32], label: u32) -> usize
     requires { IsStrictlySortedBy nat_cmp names.now }
     ensures { result ≡ rank names.now label }
 {

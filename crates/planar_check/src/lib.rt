@@ -18,6 +18,7 @@ mod sign;
 #[cfg(test)]
 mod tests;
 
+pub use distinct::{distinct as distinct_labels, rank};
 pub use face::{Face, faces};
 pub use fault::{FramedFault, PlanarFault};
 pub use framed::Framed;

@@ -1,0 +1,13 @@
+pub mod SeenLabels
+pub mod Misfits
+pub mod BoxLists
+pub mod ItemNodes
+pub mod ItemSteps
+pub mod Progresses
+pub mod Ends
+pub mod FoundProjectors
+pub mod LentTerms
+pub mod ListColours
+pub mod NetEdges
+pub mod CabledNets
+pub mod DiagramEdges
