@@ -12,7 +12,7 @@ use wenzl_table::{Found, Projector};
 
 /// The colours of the edges, with a projector for each colour of a box.
 #[derive(Drop)]
-pub struct Colouring<'a> {
+pub(crate) struct Colouring<'a> {
     /// The parameters, whose A stands at crossings.
     pub params: &'a Params,
     /// The edges.

@@ -5,7 +5,7 @@ ghost use Rattle.skein_network.specs.Edges.{colour_at, boxed_at};
 
 /// A label, its colour, and whether its edge has a box.
 #[derive(Clone, Copy)]
-pub struct Edge {
+pub(crate) struct Edge {
     /// The label.
     pub label: u32,
     /// The colour, which is the number of strands.

@@ -16,7 +16,7 @@ use std::alloc::{AllocError, Global};
 
 /// How far a cable has come.
 #[derive(Drop)]
-pub struct Progress {
+pub(crate) struct Progress {
     /// The labels at the places of the items so far.
     pub seen: Vec<u32>,
     /// How many items there were.
