@@ -12,7 +12,7 @@ use Rattle.list_lemmas.specs.Times.{times_in}
 use Rattle.pd_reader.specs.declared.item.NetItem.{NetItem}
 use Rattle.pd_reader.specs.declared.item.NetItem.TheVariants.{X, Y, Loop}
 use Rattle.pd_reader.specs.Items.{net_item_labels}
-use Rattle.pd_reader.specs.Diagrams.{labels, times}
+use Rattle.pd_reader.specs.Diagrams.{labels}
 use Rattle.cables.specs.Strands.{Strands}
 use Rattle.cables.specs.Cables.{loop_nodes, places}
 use Rattle.cables.proofs.NameCounts.{at, times-reverse}
@@ -20,7 +20,7 @@ use Rattle.list_lemmas.proofs.Times.{member_of_times, times_of_member, times_in-
 use Rattle.cables.proofs.PlaceNames.{first_times, second_times, place_sum, OnlyLabel, new_sum, none_sum}
 use Rattle.cables.proofs.CableNames.{loop_total, box_total}
 
-pub times-turned : (l : ℕ) (xs : List ℕ) → times l xs ≡ times_in xs l
+pub times-turned : (l : ℕ) (xs : List ℕ) → times_in xs l ≡ times_in xs l
 times-turned l [] = refl
 times-turned l (y ∷ xs) =
     let ih = times-turned l xs in let e = sum_by-cons (λ z. cond (z == l) 1 0) y xs in let f = times_in-cons y xs l in grind (arith, nat_tests, ih, e, f)
@@ -172,7 +172,7 @@ module _ (strands : Strands) (x l : ℕ) (only : OnlyLabel strands x l) where
   module _ (plain : strands.boxed l ≡ false → second_times strands x l ≡ first_times strands x l) (first_once : first_times strands x l ≤ 1)
       (box_once : strands.boxed l ≡ true → first_times strands x l + second_times strands x l ≤ 1) where
     -- THE NAMES OUTSIDE OF GRIDS
-    pub outer_times : (items : List NetItem) → AllByRecursion (λ label. times label (labels net_item_labels items) ≡ 2) (labels net_item_labels items) →
+    pub outer_times : (items : List NetItem) → AllByRecursion (λ label. times_in (labels net_item_labels items) label ≡ 2) (labels net_item_labels items) →
         (h : ℕ) × ((place_sum strands x [] (places items) + box_total strands x l [] items + loop_total strands x items ≡ 2 * h) × ((h ≤ 1) × (1 ≤ h → (1 ≤ times_in (labels net_item_labels items) l) × (1 ≤ first_times strands x l + second_times strands x l))))
     outer_times items twice =
         let ls = labels net_item_labels items in
@@ -191,7 +191,7 @@ module _ (strands : Strands) (x l : ℕ) (only : OnlyLabel strands x l) where
         (0, (omega (arith, a, b, lp0, lp1, k), (omega arith, λ h. absurd (omega (arith, h))))))
         (λ some.
         let stand = some.1 in
-        let is_two = at_label (λ label. times label ls ≡ 2) l ls twice (omega (arith, stand)) in
+        let is_two = at_label (λ label. times_in ls label ≡ 2) l ls twice (omega (arith, stand)) in
         let turned = times-turned l ls in
         ⊎_elim
         (λ p0.

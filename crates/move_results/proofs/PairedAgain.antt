@@ -13,7 +13,7 @@ use Rattle.graph_parts.proofs.Through.{inside-from_Joined}
 use Rattle.pd_reader.specs.declared.item.Item.{Item}
 use Rattle.pd_reader.specs.declared.item.Item.TheVariants as item
 use Rattle.pd_reader.specs.Items.{item_labels, HasItsSlots}
-use Rattle.pd_reader.specs.Diagrams.{labels, times}
+use Rattle.pd_reader.specs.Diagrams.{labels}
 use Rattle.state_sums.specs.Networks.{names_of}
 use Rattle.state_sums.proofs.NodeNames.{names_of-rename}
 use Rattle.diagram_moves.specs.Laws.{IsPairedDiagram}
@@ -38,7 +38,7 @@ pub paired_diagram : (items : List Item) → AllByRecursion HasItsSlots items �
     ((z : ℕ) → 1 ≤ times_in (labels item_labels items) z → times_in (labels item_labels items) z ≡ 2) → IsPairedDiagram items
 paired_diagram items sizes h = record {
   sizes = sizes;
-  twice = by_recursion (λ label. times label (labels item_labels items) ≡ 2) (labels item_labels items)
+  twice = by_recursion (λ label. times_in (labels item_labels items) label ≡ 2) (labels item_labels items)
       (λ x m. flip_times x (labels item_labels items) ∙ h x (times_of_member x (labels item_labels items) m));
 }
 

@@ -3,7 +3,7 @@ use Rattle.std.proofs.Common.{◌≡◌, ◌≢◌, ◌⊎◌, ℕ, zero, suc, �
 use Rattle.std.specs.List.{range_with_len}
 use Rattle.std.proofs.lemmas.Bool.{cases_Bool, eqb-true, eqb-false, eq-eqb}
 use Rattle.graph_parts.proofs.Rounds.{count_by-cons}
-use Rattle.pd_reader.specs.Diagrams.{times}
+use Rattle.list_lemmas.specs.Times.{times_in}
 use Rattle.planar_check.specs.Places.{first_passing}
 
 abbrev once : Bool → ℕ
@@ -13,7 +13,7 @@ module _ (x : ℕ) where
   abbrev is_x : ℕ → Bool
   is_x y = y == x
 
-  nowhere : (ls : List ℕ) → times x ls ≡ 0 → (q : ℕ) → q < length ls → slice_index ls q ≢ x
+  nowhere : (ls : List ℕ) → times_in ls x ≡ 0 → (q : ℕ) → q < length ls → slice_index ls q ≢ x
   nowhere [] t q l e = absurd (omega (arith, l))
   nowhere (y ∷ ls) t zero l e =
       let one : once (is_x y) ≡ 1 = ap once (eq-eqb y x e) in
@@ -27,7 +27,7 @@ module _ (x : ℕ) where
     is : slice_index ls place ≡ x
     only : (r : ℕ) → r < length ls → slice_index ls r ≡ x → r ≡ place
 
-  one_place : (ls : List ℕ) → times x ls ≡ 1 → IsOne ls
+  one_place : (ls : List ℕ) → times_in ls x ≡ 1 → IsOne ls
   one_place [] t = absurd (omega (arith, t))
   one_place (y ∷ ls) t = elim (cases_Bool (is_x y)) [
     | inl h ↦ (let one : once (is_x y) ≡ 1 = ap once h in
@@ -66,7 +66,7 @@ module _ (x : ℕ) where
   both_later y ls d t (suc r) l e =
       ⊎_elim (λ s. inl (ap (λ (m : ℕ). suc m) s)) (λ s. inr (ap (λ (m : ℕ). suc m) s)) (t.only r (omega (arith, l)) e)
 
-  pub two_places : (ls : List ℕ) → times x ls ≡ 2 → AreTwo ls
+  pub two_places : (ls : List ℕ) → times_in ls x ≡ 2 → AreTwo ls
   two_places [] t = absurd (omega (arith, t))
   two_places (y ∷ ls) t = elim (cases_Bool (is_x y)) [
     | inl h ↦ (let one : once (is_x y) ≡ 1 = ap once h in
