@@ -22,7 +22,7 @@ use Rattle.cables.proofs.NameCounts.{times-reverse}
 use Rattle.list_lemmas.proofs.Times.{times_in-append, times_of_member}
 use Rattle.cables.proofs.CableNames.{cable-times}
 use Rattle.cables.proofs.InnerNames.{inner_total_range}
-use Rattle.cables.proofs.LabelNames.{times-turned, member_none, zero_or_some, outer_times}
+use Rattle.cables.proofs.LabelNames.{member_none, zero_or_some, outer_times}
 use Rattle.cables.proofs.NumberedStrands.{first_length, as_many_strands, only_label, plain_second, first_once, box_once, label_low}
 use Rattle.cables.proofs.CableIsNodes.{IsGood, cable_good}
 use Rattle.cables.proofs.CableLaws.{cable_network}
@@ -118,6 +118,5 @@ added_loop p colour boxed box items label net few boxes fits low new projector =
         let k = some.1 in
         let stands = (outer.1.1.1 (omega (arith, k))).0 in
         let z = ap (times_in (labels net_item_labels items)) own in
-        let t = times-turned label (labels net_item_labels items) in
-        omega (arith, stands, z, t, new))
+        omega (arith, stands, z, new))
         (zero_or_some outer.0)

@@ -20,11 +20,6 @@ use Rattle.list_lemmas.proofs.Times.{member_of_times, times_of_member, times_in-
 use Rattle.cables.proofs.PlaceNames.{first_times, second_times, place_sum, OnlyLabel, new_sum, none_sum}
 use Rattle.cables.proofs.CableNames.{loop_total, box_total}
 
-pub times-turned : (l : ℕ) (xs : List ℕ) → times_in xs l ≡ times_in xs l
-times-turned l [] = refl
-times-turned l (y ∷ xs) =
-    let ih = times-turned l xs in let e = sum_by-cons (λ z. cond (z == l) 1 0) y xs in let f = times_in-cons y xs l in grind (arith, nat_tests, ih, e, f)
-
 pub member_none : (l : ℕ) (xs : List ℕ) → times_in xs l ≡ 0 → is_member ◌==◌ xs l ≡ false
 member_none l [] h = refl
 member_none l (y ∷ xs) h = let e = times_in-cons y xs l in let ih = member_none l xs (omega (arith, e, h)) in grind (arith, nat_tests, ih, e, h)
@@ -192,18 +187,17 @@ module _ (strands : Strands) (x l : ℕ) (only : OnlyLabel strands x l) where
         (λ some.
         let stand = some.1 in
         let is_two = at_label (λ label. times_in ls label ≡ 2) l ls twice (omega (arith, stand)) in
-        let turned = times-turned l ls in
         ⊎_elim
         (λ p0.
-        let l1 : loops_of l items ≡ 1 = omega (arith, p0, count, is_two, turned) in
+        let l1 : loops_of l items ≡ 1 = omega (arith, p0, count, is_two) in
         let a = none_sum strands x l only (places items) [] refl p0 in
         let b = no_boxes items [] refl p0 in
         let k = ap (λ n. n * f) l1 in
         (lp.0, (omega (arith, a, b, lp0), (omega (arith, lp1, k, first_once), λ h. (omega (arith, stand), omega (arith, h, lp1, k))))))
         (λ placed.
         let more = placed.1 in
-        let p2 : times_in (places items) l ≡ 2 = omega (arith, more, count, is_two, turned) in
-        let l0 : loops_of l items ≡ 0 = omega (arith, p2, count, is_two, turned) in
+        let p2 : times_in (places items) l ≡ 2 = omega (arith, more, count, is_two) in
+        let l0 : loops_of l items ≡ 0 = omega (arith, p2, count, is_two) in
         let a = new_sum strands x l only (places items) [] 1 refl p2 in
         let b = new_boxes items [] refl (omega (arith, p2)) in
         let k = ap (λ n. n * f) l0 in

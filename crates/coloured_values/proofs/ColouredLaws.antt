@@ -22,7 +22,7 @@ use Rattle.cables.specs.Strands.{Strands, strands_of, first_names, second_names}
 use Rattle.cables.specs.Cables.{cable, Fits, as_net, net_item}
 use Rattle.cables.specs.Nets.{projector_of}
 use Rattle.cables.proofs.AddedLoops.{added_loop}
-use Rattle.cables.proofs.LabelNames.{times-turned, zero_or_some}
+use Rattle.cables.proofs.LabelNames.{zero_or_some}
 use Rattle.list_lemmas.proofs.Times.{member_of_times}
 use Rattle.cables.proofs.NumberedStrands.{first_length}
 use Rattle.cables.proofs.PlainCables.{plain_cable}
@@ -116,7 +116,6 @@ module _ (items : List Item) (colours : List ℕ) (label n : ℕ) (sizes : AllBy
   no_label =
       let ls = labels item_labels items in
       ap (λ xs. times_in xs label) (labels-as_net items)
-      ∙ times-turned label ls
       ∙ ⊎_elim (λ e. e) (λ s. absurd (let k = s.1 in let b = member_at_most ls label (member_of_times label ls (omega (arith, k))) in omega (arith, b, past))) (zero_or_some (times_in ls label))
 
 as_net-added : (items : List Item) (label : ℕ) → as_net (items ++ Loop label ∷ []) ≡ as_net items ++ net_items.Loop label ∷ []

@@ -78,30 +78,24 @@ slots_of (Loop label ∷ items) = slots_of items
 abbrev loops_at : ℕ → List Item → ℕ
 loops_at x [] = 0
 loops_at x (X slots ∷ items) = loops_at x items
-loops_at x (Loop label ∷ items) = cond (label == x) 1 0 + loops_at x items
+loops_at x (Loop label ∷ items) = cond (x == label) 1 0 + loops_at x items
 
 names_are : (p : Parameters) (group : ℕ) (items : List Item) → names_of (crossing_nodes p group items) ≡ map strand_name (slots_of items)
 names_are p group [] = refl
 names_are p group (X slots ∷ items) = ap (λ ns. map strand_name slots ++ ns) (names_are p (group + 1) items) ∙ sym (map-append strand_name slots (slots_of items))
 names_are p group (Loop label ∷ items) = names_are p group items
 
-times-turned : (x : ℕ) (xs : List ℕ) → times_in xs x ≡ times_in xs x
-times-turned x [] = refl
-times-turned x (y ∷ xs) =
-    let ih = times-turned x xs in let e = sum_by-cons (λ z. cond (z == x) 1 0) y xs in let f = sum_by-cons (λ z. cond (x == z) 1 0) y xs in grind (arith, nat_tests, ih, e, f)
-
 times-labels : (x : ℕ) (items : List Item) → times_in (labels item_labels items) x ≡ times_in (slots_of items) x + 2 * loops_at x items
 times-labels x [] = refl
 times-labels x (X slots ∷ items) =
     let ih = times-labels x items in
-    let e = sum_by-append (λ z. cond (z == x) 1 0) slots (labels item_labels items) in
+    let e = sum_by-append (λ z. cond (x == z) 1 0) slots (labels item_labels items) in
     let f = sum_by-append (λ z. cond (x == z) 1 0) slots (slots_of items) in
-    let t = times-turned x slots in
-    omega (arith, ih, e, f, t)
+    omega (arith, ih, e, f)
 times-labels x (Loop label ∷ items) =
     let ih = times-labels x items in
-    let e = sum_by-cons (λ z. cond (z == x) 1 0) label (label ∷ labels item_labels items) in
-    let f = sum_by-cons (λ z. cond (z == x) 1 0) label (labels item_labels items) in
+    let e = sum_by-cons (λ z. cond (x == z) 1 0) label (label ∷ labels item_labels items) in
+    let f = sum_by-cons (λ z. cond (x == z) 1 0) label (labels item_labels items) in
     grind (arith, ih, e, f)
 
 times_in-named : (label : ℕ) (xs : List ℕ) → times_in (map strand_name xs) (strand_name label) ≡ times_in xs label

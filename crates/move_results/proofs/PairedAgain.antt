@@ -22,7 +22,7 @@ use Rattle.diagram_moves.specs.Moves.{two_labels, closing, removed}
 use Rattle.diagram_moves.proofs.Nodes.{kept, names_of-nodes}
 use Rattle.diagram_moves.proofs.Pushing.{crossing_labels-append}
 use Rattle.diagram_moves.proofs.Undone.{nodes_of-removed, sizes-closing}
-use Rattle.diagram_moves.proofs.Paired.{paired, flip_times, times_labels, twice_in_all, loop_labels}
+use Rattle.diagram_moves.proofs.Paired.{paired, times_labels, twice_in_all, loop_labels}
 use Rattle.list_lemmas.proofs.Times.{member_of_times, times_none, times_in-append, times_of_member}
 use Rattle.diagram_moves.proofs.PlaceLemmas.{fresh_above}
 use Rattle.list_lemmas.specs.Times.{times_in}
@@ -39,7 +39,7 @@ pub paired_diagram : (items : List Item) → AllByRecursion HasItsSlots items �
 paired_diagram items sizes h = record {
   sizes = sizes;
   twice = by_recursion (λ label. times_in (labels item_labels items) label ≡ 2) (labels item_labels items)
-      (λ x m. flip_times x (labels item_labels items) ∙ h x (times_of_member x (labels item_labels items) m));
+      (λ x m. h x (times_of_member x (labels item_labels items) m));
 }
 
 -- as many standings as before, and two more of new labels

@@ -28,35 +28,35 @@ count-more : (p : ℕ → Bool) (x : ℕ) (xs : List ℕ) → count_by p (x ∷ 
 count-more p x xs = sum_by-cons (λ y. once (p y)) x xs
 
 -- ---- each number that passes stands twice in a list, so at most half as many pass as stand there
-no_earlier : (l a n : ℕ) → l < a → count_by (λ x. l == x) (range_with_len a n) ≡ 0
+no_earlier : (l a n : ℕ) → l < a → count_by (λ x. x == l) (range_with_len a n) ≡ 0
 no_earlier l a zero h = refl
 no_earlier l a (suc n) h =
     let ih = no_earlier l (a + 1) n (omega (arith, h)) in
-    let more = count-more (λ x. l == x) a (range_with_len (a + 1) n) in
-    let none : once (l == a) ≡ 0 = grind (arith, nat_tests, h) in
+    let more = count-more (λ x. x == l) a (range_with_len (a + 1) n) in
+    let none : once (a == l) ≡ 0 = grind (arith, nat_tests, h) in
     omega (arith, more, none, ih)
 
-at_most_once : (l a n : ℕ) → count_by (λ x. l == x) (range_with_len a n) ≤ 1
+at_most_once : (l a n : ℕ) → count_by (λ x. x == l) (range_with_len a n) ≤ 1
 at_most_once l a zero = omega arith
 at_most_once l a (suc n) =
     let ih = at_most_once l (a + 1) n in
-    let more = count-more (λ x. l == x) a (range_with_len (a + 1) n) in
-    elim (cases_Bool (l == a)) [
-      | inl t ↦ (let none = no_earlier l (a + 1) n (let same = eqb-true l a t in omega (arith, same)) in let one : once (l == a) ≡ 1 = ap once t in omega (arith, more, none, one))
-      | inr t ↦ (let here : once (l == a) ≡ 0 = ap once t in omega (arith, more, here, ih))
+    let more = count-more (λ x. x == l) a (range_with_len (a + 1) n) in
+    elim (cases_Bool (a == l)) [
+      | inl t ↦ (let none = no_earlier l (a + 1) n (let same = eqb-true a l t in omega (arith, same)) in let one : once (a == l) ≡ 1 = ap once t in omega (arith, more, none, one))
+      | inr t ↦ (let here : once (a == l) ≡ 0 = ap once t in omega (arith, more, here, ih))
     ]
 
 sum-none : (xs : List ℕ) → sum_by (λ x. times_in [] x) xs ≡ 0
 sum-none [] = refl
 sum-none (x ∷ xs) = let more = sum_by-cons (λ y. times_in [] y) x xs in omega (arith, more, sum-none xs)
 
-sum-cons : (l : ℕ) (ls xs : List ℕ) → sum_by (λ x. times_in (l ∷ ls) x) xs ≡ count_by (λ x. l == x) xs + sum_by (λ x. times_in ls x) xs
+sum-cons : (l : ℕ) (ls xs : List ℕ) → sum_by (λ x. times_in (l ∷ ls) x) xs ≡ count_by (λ x. x == l) xs + sum_by (λ x. times_in ls x) xs
 sum-cons l ls [] = refl
 sum-cons l ls (x ∷ xs) =
     let whole = sum_by-cons (λ y. times_in (l ∷ ls) y) x xs in
     let rest = sum_by-cons (λ y. times_in ls y) x xs in
-    let here = count-more (λ other. other == x) l ls in
-    let first = count-more (λ y. l == y) x xs in
+    let here = count-more (λ other. x == other) l ls in
+    let first = count-more (λ y. y == l) x xs in
     omega (arith, whole, rest, here, first, sum-cons l ls xs)
 
 sum-le : (n : ℕ) (ls : List ℕ) → sum_by (λ x. times_in ls x) (range_with_len 0 n) ≤ length ls
