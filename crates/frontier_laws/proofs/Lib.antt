@@ -16,5 +16,7 @@ pub mod OpenNames
 pub mod OrdersPlaces
 pub mod OrdersTaken
 pub mod ChosenOrders
+pub mod PartOrders
+pub mod FunctionOrders
 pub mod OpenWith
 pub mod FixedOrders

@@ -1,4 +1,6 @@
 pub mod Orders
+pub mod Views
 pub mod Turns
+pub mod FunctionOrders
 pub mod Tables
 pub mod Laws

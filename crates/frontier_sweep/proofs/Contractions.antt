@@ -19,7 +19,7 @@ use Rattle.frontier_laws.proofs.TableSteps.{table_of_none}
 use Rattle.frontier_laws.proofs.TurnSteps.{within_none}
 use Rattle.frontier_sweep.specs.Frontiers.{Frontier, IsFrontier, IsLimitAfter}
 use Rattle.frontier_sweep.specs.Sweeps.{IsStopped, stopped_at}
-use Rattle.frontier_sweep.specs.Views.{IsView}
+use Rattle.frontier_laws.specs.Views.{IsView}
 use Rattle.frontier_sweep.specs.declared.fault.NotGlued.{NotGlued}
 use Rattle.frontier_sweep.specs.declared.fault.NotGlued.TheVariants.{Wide, Full, Memory}
 

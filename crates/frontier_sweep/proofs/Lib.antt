@@ -1,5 +1,7 @@
+mod Examples
 pub mod Entries
 pub mod Remainders
 pub mod StepLemmas
 pub mod FrontierLemmas
 pub mod Contractions
+pub mod SweepResults

@@ -1,4 +1,3 @@
-pub mod Views
 pub mod Choices
 pub mod Next
 pub mod NextLeft
@@ -6,4 +5,5 @@ pub mod LoopPowers
 pub mod Steps
 pub mod NotGluedNodes
 pub mod Sweeps
+pub mod SweepResults
 pub mod Frontiers

@@ -6,7 +6,7 @@ ghost use Rattle.std.specs.Map.{lookup};
 ghost use Rattle.std.specs.Option.{unwrap_or};
 ghost use Rattle.std.specs.Set.{is_member};
 ghost use Rattle.state_sums.specs.Networks.{WeightsBelow};
-ghost use Rattle.frontier_sweep.specs.Views.{IsView};
+ghost use Rattle.frontier_laws.specs.Views.{IsView};
 ghost use Rattle.frontier_sweep.specs.Frontiers.{IsFrontier, IsLimitAfter};
 
 use crate::fault::NotGlued;

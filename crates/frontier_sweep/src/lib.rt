@@ -13,7 +13,7 @@ mod table;
 mod view;
 
 pub use chooser::{Choose, Chooser, Kept};
-pub use contraction::contract;
+pub use contraction::{contract, contract_in_order};
 pub use fault::SweepFault;
 pub use laws::one_order_each;
 pub use order::{Order, given_next, greedy_next, listed_next};

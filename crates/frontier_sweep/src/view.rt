@@ -1,7 +1,7 @@
 //! What a chooser sees.
 
 ghost use Rattle.std.specs.Prelude.{◌≡◌, length};
-ghost use Rattle.frontier_sweep.specs.Views.{IsView};
+ghost use Rattle.frontier_laws.specs.Views.{IsView};
 
 use arc_pairing::Network;
 use std::marker::Model;
@@ -20,7 +20,7 @@ pub struct View<'a> {
 
 impl<'a> Model for View<'a> {
     ghost use Rattle.frontier_laws.specs.Orders;
-    ghost use Rattle.frontier_sweep.specs.Views.{IsView};
+    ghost use Rattle.frontier_laws.specs.Views.{IsView};
 
     ghost Value = { Orders.View };
 

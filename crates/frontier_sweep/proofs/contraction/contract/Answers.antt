@@ -1,4 +1,4 @@
-use Rattle.std.proofs.Common.{◌+◌, ◌*◌, ◌^◌, ◌%◌, ◌<◌, ◌≤◌, ◌==◌, ◌≡◌, true, List, [], ◌∷◌, length, refl, sym, ap, subst, ◌∙◌}
+use Rattle.std.proofs.Common.{◌+◌, ◌*◌, ◌^◌, ◌%◌, ◌<◌, ◌≤◌, ◌==◌, ◌≡◌, true, List, [], ◌∷◌, length, refl, rules, sym, ap, subst, ◌∙◌}
 use Rattle.std.specs.List.{range_with_len}
 use Rattle.std.specs.Map.{lookup}
 use Rattle.std.specs.Option.{unwrap_or}
@@ -8,8 +8,9 @@ use Rattle.state_sums.specs.StateSums.{value}
 use Rattle.frontier_laws.specs.Orders.{View}
 use Rattle.frontier_sweep.specs.LoopPowers.{LoopPowers}
 use Rattle.frontier_sweep.specs.Sweeps.{IsStopped}
-use Rattle.frontier_sweep.specs.Views.{IsView}
+use Rattle.frontier_laws.specs.Views.{IsView}
 use Rattle.frontier_sweep.proofs.Contractions.{IsContractedTo, first, shown, some_left, one_more, stopped, summed}
+use Rattle.frontier_sweep.proofs.SweepResults.{swept_by, stopped_by}
 use Rattle.frontier_sweep.proofs.contraction.contract.Goals as goal
 
 pub loop-taken-init : goal.loop-taken-init
@@ -50,6 +51,16 @@ returns-in-Err-advance-clause-stopped g c =
     let small = subst (λ (nodes : List Node). c.loop-taken.taken < length nodes) c.nodes-taken-end.ensures.value c.loop-taken-test.true in
     subst (IsStopped answers network) (sym c.stopped_at.ensures)
     (stopped answers m delta network c.loop-taken.taken c.loop-taken.frontier c.loop-taken.own h c.name-place.result answer left small (c.loop-taken.taken + 1) refl c.in-Err-advance.reason limit)
+
+pub returns-in-Err-advance-clause-limit : goal.returns-in-Err-advance-clause-limit
+returns-in-Err-advance-clause-limit g c next is_next =
+    stopped_by next (g.C.Choose.answers c.args.chooser.now) c.args.network.now is_next c.stopped_at.result (returns-in-Err-advance-clause-stopped g c)
+
+pub returns-clause-swept : goal.returns-clause-swept
+returns-clause-swept g c = search rules
+
+pub returns-clause-turns : goal.returns-clause-turns
+returns-clause-turns g c next is_next = swept_by next (g.C.Choose.answers c.args.chooser.now) c.args.network.now is_next _ _ (returns-clause-swept g c)
 
 pub loop-taken-preserved : goal.loop-taken-preserved
 loop-taken-preserved g c =
