@@ -5,6 +5,7 @@ use Rattle.graph_parts.specs.Parts as P
 use Rattle.state_sums.specs.Networks.{Node, Network}
 use Rattle.frontier_laws.specs.Orders.{listed_of, greedy_of, given_of, order_by, open_names}
 use Rattle.frontier_laws.specs.FunctionOrders.{first_limit, nodes_by}
+use Rattle.frontier_laws.specs.Rises.{rise}
 use Rattle.frontier_laws.specs.Turns.{turns, turns_of}
 
 -- A crossing on four names.
@@ -53,3 +54,7 @@ broad_limit = refl
 trefoil_within : first_limit (nodes_by greedy_of trefoil) ≡ None
 unfolding trefoil crossing P.part
 trefoil_within = refl
+
+-- Of the ends 3, 4, 4, 5 one opens and one closes.
+even_rise : rise (1 ∷ 2 ∷ 3 ∷ []) (3 ∷ 4 ∷ 4 ∷ 5 ∷ []) ≡ 24
+even_rise = refl

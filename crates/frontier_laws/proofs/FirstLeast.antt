@@ -108,3 +108,22 @@ first_least-among key (x ∷ places) some =
     let all = x ∷ places in
     subst (λ place. is_member ◌==◌ all place ≡ true) (running-all key all (omega arith))
     (running-among key all x all (is_member-get_or all 0 (omega arith)) (is_member-itself all))
+
+-- MEASURES THAT COMPARE ALIKE HAVE ONE FIRST LEAST PLACE
+better-alike : (key other : ℕ → ℕ) (best place : ℕ) → nat_lt (key place) (key best) ≡ nat_lt (other place) (other best) → better key best place ≡ better other best place
+better-alike key other best place same = ap (λ b. if b then place else best) same
+
+running-alike : (key other : ℕ → ℕ) (all : List ℕ) → ((x y : ℕ) → is_member ◌==◌ all x ≡ true → is_member ◌==◌ all y ≡ true → nat_lt (key y) (key x) ≡ nat_lt (other y) (other x)) →
+    (best : ℕ) (places : List ℕ) → is_member ◌==◌ all best ≡ true → AllPass (is_member ◌==◌ all) places → running key best places ≡ running other best places
+running-alike key other all alike best [] one some = refl
+running-alike key other all alike best (place ∷ places) one some =
+    let two = All-head (λ x. is_member ◌==◌ all x ≡ true) place places some in
+    running-alike key other all alike (better key best place) places (better-among key all best place one two) (All-tail (λ x. is_member ◌==◌ all x ≡ true) place places some)
+    ∙ ap (λ best. running other best places) (better-alike key other best place (alike best place one two))
+
+pub first_least-alike : (key other : ℕ → ℕ) (places : List ℕ) → 0 < length places →
+    ((x y : ℕ) → is_member ◌==◌ places x ≡ true → is_member ◌==◌ places y ≡ true → nat_lt (key y) (key x) ≡ nat_lt (other y) (other x)) → first_least key places ≡ first_least other places
+first_least-alike key other places some alike =
+    sym (running-all key places some)
+    ∙ running-alike key other places alike (slice_index places 0) places (is_member-get_or places 0 some) (is_member-itself places)
+    ∙ running-all other places some

@@ -19,4 +19,5 @@ pub mod ChosenOrders
 pub mod PartOrders
 pub mod FunctionOrders
 pub mod OpenWith
+pub mod Rises
 pub mod FixedOrders

@@ -1,6 +1,6 @@
 -- One step of a frontier: what it asks, where it stops, and what it leaves. A frontier is that of the nodes taken so far, so each
 -- is a law of these nodes and one more.
-use Rattle.std.proofs.Common.{◌≡◌, ℕ, ◌+◌, ◌*◌, ◌<◌, ◌≤◌, ◌==◌, true, List, [], ◌∷◌, ◌++◌, map, take, take_all, length, slice_index, get_or, sym, ap, subst, ◌∙◌, arith}
+use Rattle.std.proofs.Common.{◌≡◌, ℕ, ◌+◌, ◌*◌, ◌<◌, ◌≤◌, ◌==◌, true, false, List, [], ◌∷◌, ◌++◌, map, take, take_all, length, slice_index, get_or, sym, ap, subst, ◌∙◌, arith}
 use Rattle.std.specs.List.{All, remove}
 use Rattle.std.specs.List.Sorted.{IsStrictlyIncreasing}
 use Rattle.std.specs.Map.{keys_of}
@@ -18,6 +18,11 @@ use Rattle.frontier_laws.specs.Tables.{IsTableOf, add_all, contribution, contrib
 use Rattle.frontier_laws.specs.Turns.{IsWithinAt, IsWithin, IsWideAt, IsFullAt, open_count, pairing_count, turns, turns_of}
 use Rattle.frontier_laws.proofs.NextPairings.{seam_of}
 use Rattle.frontier_laws.proofs.OpenNames.{AreOpen-open_names, increasing-open_names, open_after, open_count-after, few_after}
+use Rattle.frontier_laws.proofs.OpenWith.{once_open}
+use Rattle.frontier_laws.specs.Rises.{rise}
+use Rattle.frontier_laws.proofs.Rises.{rise-open}
+use Rattle.list_lemmas.proofs.Times.{member_of_times, times_in-append, times_none, times_of_member}
+use Rattle.std.proofs.lemmas.Bool.Decides.{nat_tests}
 use Rattle.frontier_laws.proofs.OrdersPlaces.{IsPartOrder-more, left_below, left_more, order_length}
 use Rattle.frontier_laws.proofs.OrdersTaken.{taken_more, AreNodes-taken, AreFew-order}
 use Rattle.frontier_laws.proofs.TableCounts.{table_length}
@@ -28,6 +33,7 @@ use Rattle.frontier_laws.proofs.Tables.{add_all-append, add_all-below}
 use Rattle.frontier_laws.proofs.TurnSteps.{turns_after, within_after, wide_after, full_after}
 use Rattle.frontier_sweep.specs.Frontiers.{Frontier, IsFrontier, IsLimitAfter}
 use Rattle.frontier_sweep.specs.NotGluedNodes.{Explains}
+use Rattle.frontier_sweep.specs.Rises.{Rises, IsRises}
 use Rattle.frontier_sweep.specs.Steps.{IsReady, IsSeamOf, OverflowsIn, OverflowsAt}
 use Rattle.frontier_sweep.specs.declared.fault.NotGlued.{NotGlued}
 use Rattle.frontier_sweep.specs.declared.fault.NotGlued.TheVariants.{Wide, Full, Memory}
@@ -179,11 +185,25 @@ module _ (m delta : ℕ) (network : Network) (order : List ℕ) (frontier : Fron
   limit Memory explains = explains
 
   -- ---- what it leaves
+  -- A name that is no end of the node is open afterwards where it was before.
+  pub beside : (seam : Seam) → IsSeamOf frontier.names node.ends seam → (name : ℕ) → is_member ◌==◌ node.ends name ≡ false → is_member ◌==◌ seam.outer name ≡ is_member ◌==◌ frontier.names name
+  beside seam is name apart =
+      let both = times_in-append frontier.names node.ends name in
+      let none = times_none node.ends name apart in
+      let outer = is.outer.once name in
+      let once = once_open (taken network.nodes order) frontier.names h.names_are name in
+      let some = times_of_member name frontier.names in
+      let only = member_of_times name frontier.names in
+      let some_outer = times_of_member name seam.outer in
+      let only_outer = member_of_times name seam.outer in
+      grind (arith, nat_tests, both, none, outer, once, some, only, some_outer, only_outer)
+
   -- THE FRONTIER WITH ONE NODE MORE
   pub next_frontier : (seam : Seam) → IsSeamOf frontier.names node.ends seam → IsShortNode node → (at : ℕ) → at < length frontier.left → slice_index frontier.left at ≡ place →
+      (left names : List ℕ) → left ≡ remove frontier.left at → names ≡ seam.outer → (rises : Rises) → IsRises network names rises →
       (table : List (ℕ × ℕ)) → table ≡ add_all m [] (contributions delta seam node.terms frontier.table) → length table ≤ 262144 → (after : ℕ) → after ≡ count + length frontier.table * length node.terms →
-      IsFrontier m delta network (order ++ place ∷ []) record { left = remove frontier.left at; names = seam.outer; table = table } after
-  next_frontier seam is short at in_range here table table_is few_after after after_is =
+      IsFrontier m delta network (order ++ place ∷ []) record { left = left; names = names; table = table; rises = rises } after
+  next_frontier seam is short at in_range here left names left_is names_is rises rises_are table table_is few_after after after_is =
       let nodes = taken network.nodes order in
       let glued = ap (λ seam. add_all m [] (contributions delta seam node.terms frontier.table)) (seam_is seam is) in
       let table_of : IsTableOf m delta (nodes ++ node ∷ []) table = subst (IsTableOf m delta (nodes ++ node ∷ [])) (sym (table_is ∙ glued)) (table_after nodes node ok node_ok few narrow open_in open_out m delta frontier.table h.table_of) in
@@ -195,9 +215,11 @@ module _ (m delta : ℕ) (network : Network) (order : List ℕ) (frontier : Fron
         part = part_more;
         within = subst IsWithin (sym more) (within_after nodes node h.within (narrow_after seam is) (omega (arith, long, few_after)));
         left_are =
-            ap (λ (left : List ℕ). remove left at) h.left_are
+            left_is
+            ∙ ap (λ (left : List ℕ). remove left at) h.left_are
             ∙ sym (left_more (length network.nodes) order place at (subst (λ (left : List ℕ). at < length left) h.left_are in_range) (ap (λ left. slice_index left at) (sym h.left_are) ∙ here));
-        names_are = ap (λ (seam : Seam). seam.outer) (seam_is seam is) ∙ ap open_names (sym more);
+        names_are = names_is ∙ ap (λ (seam : Seam). seam.outer) (seam_is seam is) ∙ ap open_names (sym more);
+        rises_are = rises_are;
         table_of = subst (λ nodes. IsTableOf m delta nodes table) (sym more) table_of;
         below = subst (All (λ entry. entry.1 < m)) (sym table_is) (add_all-below m (contributions delta seam node.terms frontier.table) [] t.some (All-nil (λ (entry : ℕ × ℕ). entry.1 < m)));
         count_is = after_is ∙ ap (λ n. n + length frontier.table * length node.terms) h.count_is ∙ ap (λ n. turns network order + n * length node.terms) table_long ∙ sym same;
@@ -208,3 +230,11 @@ module _ (m delta : ℕ) (network : Network) (order : List ℕ) (frontier : Fron
             let long_order : length (order ++ place ∷ []) ≡ length order + 1 = length-append order (place ∷ []) in
             omega (arith, b, f, after_is, long_order));
       }
+
+  -- ---- before it is taken
+  -- THE RISE THAT IS KEPT FOR IT tells how many names are open then
+  pub risen : slice_index frontier.rises.each place + length frontier.names ≡ open_name_count (frontier.names ++ node.ends) + 24
+  risen =
+      let kept : slice_index frontier.rises.each place ≡ rise frontier.names node.ends = h.rises_are.are.right place place_below ∙ ap (λ (node : Node). rise frontier.names node.ends) (sym t.node_is) in
+      ap (λ n. n + length frontier.names) kept
+      ∙ subst (λ (names : List ℕ). rise names node.ends + length names ≡ open_name_count (names ++ node.ends) + 24) (sym h.names_are) (rise-open (taken network.nodes order) node few narrow)

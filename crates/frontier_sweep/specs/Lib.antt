@@ -1,4 +1,5 @@
 pub mod Choices
+pub mod Rises
 pub mod Next
 pub mod NextLeft
 pub mod LoopPowers

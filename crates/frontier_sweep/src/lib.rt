@@ -3,11 +3,13 @@
 
 mod chooser;
 mod contraction;
+mod ends_index;
 mod fault;
 mod frontier;
 mod laws;
 mod order;
 mod powers;
+mod rises;
 mod step;
 mod table;
 mod view;
