@@ -11,6 +11,7 @@ pub mod TableEnds
 pub mod TableLimits
 pub mod TurnSteps
 pub mod FirstLeast
+pub mod Ranks
 pub mod OpenNamesSorted
 pub mod OpenNames
 pub mod OrdersPlaces
