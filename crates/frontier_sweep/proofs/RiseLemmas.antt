@@ -16,7 +16,8 @@ use Rattle.list_lemmas.proofs.Items.{member_at}
 use Rattle.frontier_laws.specs.Orders.{node_at}
 use Rattle.frontier_laws.specs.Rises.{rise}
 use Rattle.frontier_laws.proofs.Rises.{rise-alike}
-use Rattle.frontier_sweep.specs.Rises.{end_key, IsEndsIndex, IsRight, AreRises}
+use Rattle.graph_parts.proofs.Ends.{is_member-get_or}
+use Rattle.frontier_sweep.specs.Rises.{end_key, IsEndsIndex, IsRight, AreRises, IsAfter}
 
 -- The numbers of the ends of the first so many nodes are there, and each is of one of the nodes.
 pub record HasEnds (nodes : List Node) (done : ℕ) (index : List ℕ) : Type 0 where
@@ -55,10 +56,10 @@ index_sorted nodes done keys sorted h all few permuted increasing = record {
 }
 
 -- ---- one end
--- The rises are right at the nodes of the index from low on, and where they were.
-pub record AreRefreshedAt (nodes : List Node) (names index before : List ℕ) (low at : ℕ) (each : List ℕ) : Type 0 where
+-- The rises are right at the nodes of the index from low on, but for the one that was taken, and where they were.
+pub record AreRefreshedAt (nodes : List Node) (names index before : List ℕ) (taken low at : ℕ) (each : List ℕ) : Type 0 where
   pub whole : length each ≡ length nodes
-  pub right : (k : ℕ) → low ≤ k → k < at → IsRight nodes names each (slice_index index k % 65536)
+  pub right : (k : ℕ) → low ≤ k → k < at → slice_index index k % 65536 ≢ taken → IsRight nodes names each (slice_index index k % 65536)
   pub stays : (place : ℕ) → place < length nodes → IsRight nodes names before place → IsRight nodes names each place
 
 -- A right rise more leaves the others right.
@@ -70,66 +71,80 @@ set_right nodes names each place value other within is right = at (other == plac
         subst (λ other. IsRight nodes names (set each place value) other) (sym same) (get_or-set_same each place value 0 within ∙ is)
     at false e = let apart : other ≢ place = grind (arith, nat_tests, e) in get_or-set_other each place other value 0 apart ∙ right
 
--- ONE NODE OF THE INDEX MORE
-pub refreshed_more : (nodes : List Node) (names index before : List ℕ) (low at : ℕ) (each : List ℕ) → AreRefreshedAt nodes names index before low at each →
-    (place value : ℕ) → place ≡ slice_index index at % 65536 → place < length nodes → value ≡ rise names (node_at nodes place).ends →
-    AreRefreshedAt nodes names index before low (at + 1) (set each place value)
-refreshed_more nodes names index before low at each h place value place_is below is =
-    let within : place < length each = (let w = h.whole in omega (arith, w, below)) in
-    record {
-      whole = length-set each place value ∙ h.whole;
-      right = λ k from to.
-          ⊎_elim
-          (λ (less : k < at). set_right nodes names each place value (slice_index index k % 65536) within is (h.right k from less))
-          (λ (here : k ≡ at).
-          let same : place ≡ slice_index index k % 65536 = place_is ∙ ap (λ k. slice_index index k % 65536) (sym here) in
-          subst (λ other. IsRight nodes names (set each place value) other) same (get_or-set_same each place value 0 within ∙ is))
-          (let split : (k < at) ⊎ (k ≡ at) = grind (arith, to) in split);
-      stays = λ other small right. set_right nodes names each place value other within is (h.stays other small right);
-    }
+module _ (nodes : List Node) (names index before : List ℕ) (taken low at : ℕ) (each : List ℕ) (h : AreRefreshedAt nodes names index before taken low at each) where
+  -- ONE NODE OF THE INDEX MORE
+  pub refreshed_more : (value : ℕ) → slice_index index at % 65536 < length nodes → value ≡ rise names (node_at nodes (slice_index index at % 65536)).ends →
+      AreRefreshedAt nodes names index before taken low (at + 1) (set each (slice_index index at % 65536) value)
+  refreshed_more value below is =
+      let place = slice_index index at % 65536 in
+      let within : place < length each = (let w = h.whole in omega (arith, w, below)) in
+      record {
+        whole = length-set each place value ∙ h.whole;
+        right = λ k from to apart.
+            ⊎_elim
+            (λ (less : k < at). set_right nodes names each place value (slice_index index k % 65536) within is (h.right k from less apart))
+            (λ (here : k ≡ at).
+            let same : place ≡ slice_index index k % 65536 = ap (λ k. slice_index index k % 65536) (sym here) in
+            subst (λ other. IsRight nodes names (set each place value) other) same (get_or-set_same each place value 0 within ∙ is))
+            (let split : (k < at) ⊎ (k ≡ at) = grind (arith, to) in split);
+        stays = λ other small right. set_right nodes names each place value other within is (h.stays other small right);
+      }
 
--- THEN THE RISES ARE RIGHT AT ALL NODES THAT HAVE THE END
-pub refreshed_all : (nodes : List Node) (names index before : List ℕ) (low high : ℕ) (each : List ℕ) → AreRefreshedAt nodes names index before low high each → IsEndsIndex nodes index → (end : ℕ) →
-    ((k : ℕ) → k < low → slice_index index k < end * 65536) → ((k : ℕ) → high ≤ k → k < length index → end * 65536 + 65536 ≤ slice_index index k) →
-    (place : ℕ) → place < length nodes → is_member ◌==◌ (node_at nodes place).ends end ≡ true → IsRight nodes names each place
-refreshed_all nodes names index before low high each h is end low_before high_behind place small member =
-    let few = is.few in
-    let found = member_at index (end_key end place) (is.has place end small member) in
-    let k = found.0 in
-    let here : slice_index index k ≡ end * 65536 + place = found.2 in
-    let within = found.1 in
-    let from : low ≤ k = not_less k low (λ less. let below = low_before k less in omega (arith, below, here)) in
-    let to : k < high = not_more k high (λ more. let above = high_behind k more within in omega (arith, above, here, small, few)) in
-    subst (IsRight nodes names each) (ap (λ key. key % 65536) here ∙ rest place end (omega (arith, small, few))) (h.right k from to)
-  where
-    not_less : (k low : ℕ) → (k < low → ⊥) → low ≤ k
-    not_less k low less = grind (arith, less)
+  -- THE NODE THAT WAS TAKEN
+  pub refreshed_past : slice_index index at % 65536 ≡ taken → AreRefreshedAt nodes names index before taken low (at + 1) each
+  refreshed_past here = record {
+    whole = h.whole;
+    right = λ k from to apart.
+        ⊎_elim
+        (λ (less : k < at). h.right k from less apart)
+        (λ (last : k ≡ at). absurd (apart (ap (λ k. slice_index index k % 65536) last ∙ here)))
+        (let split : (k < at) ⊎ (k ≡ at) = grind (arith, to) in split);
+    stays = h.stays;
+  }
 
-    not_more : (k high : ℕ) → (high ≤ k → ⊥) → k < high
-    not_more k high more = grind (arith, more)
+  -- THEN THE RISES ARE RIGHT AT ALL NODES THAT HAVE THE END, but for the one that was taken
+  pub refreshed_all : IsEndsIndex nodes index → (end : ℕ) → ((k : ℕ) → k < low → slice_index index k < end * 65536) → ((k : ℕ) → at ≤ k → k < length index → end * 65536 + 65536 ≤ slice_index index k) →
+      (place : ℕ) → place < length nodes → place ≢ taken → is_member ◌==◌ (node_at nodes place).ends end ≡ true → IsRight nodes names each place
+  refreshed_all is end low_before behind place small apart member =
+      let few = is.few in
+      let found = member_at index (end_key end place) (is.has place end small member) in
+      let k = found.0 in
+      let here : slice_index index k ≡ end * 65536 + place = found.2 in
+      let within = found.1 in
+      let from : low ≤ k = not_less k low (λ less. let below = low_before k less in omega (arith, below, here)) in
+      let to : k < at = not_more k at (λ more. let above = behind k more within in omega (arith, above, here, small, few)) in
+      let key : slice_index index k % 65536 ≡ place = ap (λ key. key % 65536) here ∙ rest place end (omega (arith, small, few)) in
+      subst (IsRight nodes names each) key (h.right k from to (λ same. apart (sym key ∙ same)))
+    where
+      not_less : (k low : ℕ) → (k < low → ⊥) → low ≤ k
+      not_less k low less = grind (arith, less)
 
-    rest : (place end : ℕ) → place < 65536 → (end * 65536 + place) % 65536 ≡ place
-    rest place end small = omega (arith, small)
+      not_more : (k high : ℕ) → (high ≤ k → ⊥) → k < high
+      not_more k high more = grind (arith, more)
+
+      rest : (place end : ℕ) → place < 65536 → (end * 65536 + place) % 65536 ≡ place
+      rest place end small = omega (arith, small)
 
 -- ---- all ends of a node
--- The rises are right at all nodes that have one of the first so many ends, and where they were.
-pub record AreRefreshed (nodes : List Node) (names ends before : List ℕ) (done : ℕ) (each : List ℕ) : Type 0 where
+-- The rises are right at all nodes that have one of the first so many ends, where it is open, and where they were.
+pub record AreRefreshed (nodes : List Node) (names ends before : List ℕ) (taken done : ℕ) (each : List ℕ) : Type 0 where
   pub whole : length each ≡ length nodes
-  pub right : (k : ℕ) → k < done → (place : ℕ) → place < length nodes → is_member ◌==◌ (node_at nodes place).ends (slice_index ends k) ≡ true → IsRight nodes names each place
+  pub right : (k : ℕ) → k < done → is_member ◌==◌ names (slice_index ends k) ≡ true → (place : ℕ) → place < length nodes → place ≢ taken → is_member ◌==◌ (node_at nodes place).ends (slice_index ends k) ≡ true →
+      IsRight nodes names each place
   pub stays : (place : ℕ) → place < length nodes → IsRight nodes names before place → IsRight nodes names each place
 
 -- ONE END MORE
-pub refreshed_end : (nodes : List Node) (names ends before : List ℕ) (done : ℕ) (each : List ℕ) → AreRefreshed nodes names ends before done each → (end : ℕ) → end ≡ slice_index ends done → (next : List ℕ) →
-    length next ≡ length nodes → ((place : ℕ) → place < length nodes → is_member ◌==◌ (node_at nodes place).ends end ≡ true → IsRight nodes names next place) →
-    ((place : ℕ) → place < length nodes → IsRight nodes names each place → IsRight nodes names next place) → AreRefreshed nodes names ends before (done + 1) next
-refreshed_end nodes names ends before done each h end end_is next whole right stays = record {
+pub refreshed_end : (nodes : List Node) (names ends before : List ℕ) (taken done : ℕ) (each : List ℕ) → AreRefreshed nodes names ends before taken done each → (end : ℕ) → end ≡ slice_index ends done → (next : List ℕ) →
+    length next ≡ length nodes → (is_member ◌==◌ names end ≡ true → (place : ℕ) → place < length nodes → place ≢ taken → is_member ◌==◌ (node_at nodes place).ends end ≡ true → IsRight nodes names next place) →
+    ((place : ℕ) → place < length nodes → IsRight nodes names each place → IsRight nodes names next place) → AreRefreshed nodes names ends before taken (done + 1) next
+refreshed_end nodes names ends before taken done each h end end_is next whole right stays = record {
   whole = whole;
-  right = λ k small place below member.
+  right = λ k small shown place below apart member.
       ⊎_elim
-      (λ (less : k < done). stays place below (h.right k less place below member))
+      (λ (less : k < done). stays place below (h.right k less shown place below apart member))
       (λ (here : k ≡ done).
       let same : slice_index ends k ≡ end = ap (slice_index ends) here ∙ sym end_is in
-      right place below (subst (λ name. is_member ◌==◌ (node_at nodes place).ends name ≡ true) same member))
+      right (subst (λ name. is_member ◌==◌ names name ≡ true) same shown) place below apart (subst (λ name. is_member ◌==◌ (node_at nodes place).ends name ≡ true) same member))
       (let split : (k < done) ⊎ (k ≡ done) = grind (arith, small) in split);
   stays = λ place below right. stays place below (h.stays place below right);
 }
@@ -137,10 +152,16 @@ refreshed_end nodes names ends before done each h end end_is next whole right st
 false_not_true : false ≡ true → ⊥
 false_not_true e = grind (arith, e)
 
+-- AN END THAT ISN'T OPEN
+pub refreshed_none : (nodes : List Node) (names ends before : List ℕ) (taken done : ℕ) (each : List ℕ) → AreRefreshed nodes names ends before taken done each → (end : ℕ) → end ≡ slice_index ends done →
+    is_member ◌==◌ names end ≡ false → AreRefreshed nodes names ends before taken (done + 1) each
+refreshed_none nodes names ends before taken done each h end end_is none =
+    refreshed_end nodes names ends before taken done each h end end_is each h.whole (λ shown. absurd (false_not_true (sym none ∙ shown))) (λ place below right. right)
+
 -- The first of some names that is one of others, if there is one.
-shared : (names ends : List ℕ) → ((k : ℕ) × (k < length ends) × (is_member ◌==◌ names (slice_index ends k) ≡ true)) ⊎ ((name : ℕ) → is_member ◌==◌ ends name ≡ true → is_member ◌==◌ names name ≡ false)
-shared names [] = inr (λ name member. absurd (false_not_true member))
-shared names (end ∷ ends) =
+shared_end : (names ends : List ℕ) → ((k : ℕ) × (k < length ends) × (is_member ◌==◌ names (slice_index ends k) ≡ true)) ⊎ ((name : ℕ) → is_member ◌==◌ ends name ≡ true → is_member ◌==◌ names name ≡ false)
+shared_end names [] = inr (λ name member. absurd (false_not_true member))
+shared_end names (end ∷ ends) =
     ⊎_elim
     (λ here. inl (0, omega arith, here))
     (λ apart.
@@ -151,20 +172,21 @@ shared names (end ∷ ends) =
     (λ (same : (name == end) ≡ true). let e : name ≡ end = grind (arith, nat_tests, same) in ap (is_member ◌==◌ names) e ∙ apart)
     (λ (other : (name == end) ≡ false). none name (rw other at member))
     (cases_Bool (name == end))))
-    (shared names ends))
+    (shared_end names ends))
     (cases_Bool (is_member ◌==◌ names end))
 
--- THEN ALL RISES ARE RIGHT: a node that shares no end has the rise that it had
-pub refreshed_whole : (nodes : List Node) (names ends old each : List ℕ) (done : ℕ) → length ends ≤ done → AreRefreshed nodes names ends old done each → (before : List ℕ) → AreRises nodes before old →
-    ((name : ℕ) → is_member ◌==◌ ends name ≡ false → is_member ◌==◌ names name ≡ is_member ◌==◌ before name) → AreRises nodes names each
-refreshed_whole nodes names ends old each done all h before was beside = record {
+-- THEN ALL RISES ARE RIGHT: a node left that shares no end has the rise that it had
+pub refreshed_whole : (nodes : List Node) (names ends old each : List ℕ) (taken done : ℕ) → length ends ≤ done → AreRefreshed nodes names ends old taken done each → (before left next : List ℕ) → AreRises nodes left before old →
+    IsAfter nodes taken ends names before left next → AreRises nodes next names each
+refreshed_whole nodes names ends old each taken done all h before left next was after = record {
   whole = h.whole;
-  right = λ place below.
+  right = λ place below in_next.
       let own = (node_at nodes place).ends in
+      let kept = after.kept place in_next in
       ⊎_elim
-      (λ shares. h.right shares.0 (let l = shares.1 in omega (arith, l, all)) place below shares.2)
-      (λ apart. h.stays place below (was.right place below ∙ sym (rise-alike names before own (λ name member. beside name (apart_too own apart name member)))))
-      (shared own ends);
+      (λ shares. h.right shares.0 (let l = shares.1 in omega (arith, l, all)) (after.shared place in_next (slice_index ends shares.0) shares.2 (is_member-get_or ends shares.0 shares.1)) place below kept.1 shares.2)
+      (λ apart. h.stays place below (was.right place below kept.0 ∙ sym (rise-alike names before own (λ name member. after.beside name (apart_too own apart name member)))))
+      (shared_end own ends);
 }
   where
     apart_too : (own : List ℕ) → ((name : ℕ) → is_member ◌==◌ ends name ≡ true → is_member ◌==◌ own name ≡ false) → (name : ℕ) → is_member ◌==◌ own name ≡ true → is_member ◌==◌ ends name ≡ false

@@ -27,7 +27,7 @@ pub record IsFirst (network : Network) (frontier : Frontier) : Type 0 where
   pub left_are : frontier.left ≡ range_with_len 0 (length network.nodes)
   pub names_are : frontier.names ≡ []
   pub table_is : frontier.table ≡ (0, 1) ∷ []
-  pub rises_are : IsRises network [] frontier.rises
+  pub rises_are : (left : List ℕ) → IsRises network left [] frontier.rises
 
 -- The nodes of the order are taken, and no limit was met; 2^38 is the most that a step adds to the turns.
 pub record IsFrontier (m delta : ℕ) (network : Network) (order : List ℕ) (frontier : Frontier) (count : ℕ) : Type 0 where
@@ -35,7 +35,7 @@ pub record IsFrontier (m delta : ℕ) (network : Network) (order : List ℕ) (fr
   pub within : IsWithin (taken network.nodes order)
   pub left_are : frontier.left ≡ left_after (length network.nodes) order
   pub names_are : frontier.names ≡ open_names (taken network.nodes order)
-  pub rises_are : IsRises network frontier.names frontier.rises
+  pub rises_are : IsRises network frontier.left frontier.names frontier.rises
   pub table_of : IsTableOf m delta (taken network.nodes order) frontier.table
   pub below : All (λ entry. entry.1 < m) frontier.table
   pub count_is : count ≡ turns network order

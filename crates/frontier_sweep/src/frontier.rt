@@ -123,7 +123,8 @@ impl Frontier {
         let seam = glue_node(powers, names, node, &self.table, &mut self.next, turns)?;
         mem::swap(&mut self.table, &mut self.next);
         self.names = seam.into_names();
-        self.rises.refresh(network, self.names.as_slice(), node.ends());
+        self.rises
+            .refresh(network, self.names.as_slice(), node.ends(), place);
         let index = index_of(&self.left, place);
         self.left.remove(index);
         Ok(())

@@ -1,12 +1,12 @@
 //! By how much the number of open names rises at each node, kept from step to step.
 
-ghost use Rattle.std.specs.Prelude.{not, ◌&&◌, ◌≡◌, ◌<◌, ◌≤◌, ◌==◌, ℕ, List, [], false, true, length, IfOk};
+ghost use Rattle.std.specs.Prelude.{not, ◌&&◌, ◌≡◌, ◌≢◌, ◌<◌, ◌≤◌, ◌==◌, ℕ, List, [], true, length, IfOk};
 ghost use Rattle.std.specs.List.{count_by};
 ghost use Rattle.std.specs.Set.{is_member};
 ghost use Rattle.list_lemmas.specs.Times.{times_in};
 ghost use Rattle.frontier_laws.specs.Orders.{node_at};
 ghost use Rattle.frontier_laws.specs.Rises.{opening, closing, rise};
-ghost use Rattle.frontier_sweep.specs.Rises.{IsEndsIndex, IsRight, AreRises, IsRises};
+ghost use Rattle.frontier_sweep.specs.Rises.{IsEndsIndex, IsRight, AreRises, IsAfter, IsRises};
 
 use crate::ends_index::{end_key, ends_index, first_from};
 use arc_pairing::{MOST_NODES, MOST_POINTS, Network};
@@ -40,32 +40,55 @@ fn rise(names: &[u32], ends: &[u32]) -> u8
     (MOST_POINTS + opening(names, ends) - closing(names, ends)) as u8
 }
 
-/// Makes the rises right at all nodes that have that end, where these names are open.
-fn refresh_at(each: &mut [u8], index: &[u64], network: &Network, names: &[u32], end: u32)
+/// Makes the rises right at all nodes that have that end, but for the one that was taken, where these names
+/// are open.
+fn refresh_at(
+    each: &mut [u8],
+    index: &[u64],
+    network: &Network,
+    names: &[u32],
+    end: u32,
+    taken: u32,
+)
     requires index { IsEndsIndex network.now.nodes index.now }
     requires whole { length each.old ≡ length network.now.nodes }
     ensures whole { length each.new ≡ length network.now.nodes }
-    ensures right { (place : ℕ) → place < length network.now.nodes → is_member ◌==◌ (node_at network.now.nodes place).ends end ≡ true → IsRight network.now.nodes names.now each.new place }
+    ensures right { (place : ℕ) → place < length network.now.nodes → place ≢ taken → is_member ◌==◌ (node_at network.now.nodes place).ends end ≡ true → IsRight network.now.nodes names.now each.new place }
     ensures stays { (place : ℕ) → place < length network.now.nodes → IsRight network.now.nodes names.now each.old place → IsRight network.now.nodes names.now each.new place }
 {
     let first = end_key(end, 0);
     let low = first_from(index, first);
-    let high = first_from(index, first + MOST_NODES as u64);
-    for at in low..high {
-        let place = index[at] as usize % MOST_NODES;
-        each[place] = rise(names, network.nodes()[place].ends());
+    for at in low..index.len() {
+        let key = index[at];
+        if key >= first + MOST_NODES as u64 {
+            break;
+        }
+        let place = key as usize % MOST_NODES;
+        if place != taken as usize {
+            each[place] = rise(names, network.nodes()[place].ends());
+        }
     }
 }
 
-/// Makes all rises right, where these names are open, and before a node with these ends was taken others were.
-fn refresh(each: &mut [u8], index: &[u64], network: &Network, names: &[u32], ends: &[u32])
+/// Makes the rises of all nodes left right after one with these ends was taken, where these names are open. An
+/// end that isn't open afterwards no node left has.
+fn refresh(
+    each: &mut [u8],
+    index: &[u64],
+    network: &Network,
+    names: &[u32],
+    ends: &[u32],
+    taken: u32,
+)
     requires index { IsEndsIndex network.now.nodes index.now }
     requires whole { length each.old ≡ length network.now.nodes }
-    ensures { (before : List ℕ) → AreRises network.now.nodes before each.old → ((name : ℕ) → is_member ◌==◌ ends.now name ≡ false → is_member ◌==◌ names.now name ≡ is_member ◌==◌ before name)
-        → AreRises network.now.nodes names.now each.new }
+    ensures { (before left next : List ℕ) → AreRises network.now.nodes left before each.old → IsAfter network.now.nodes taken ends.now names.now before left next
+        → AreRises network.now.nodes next names.now each.new }
 {
     for end in ends {
-        refresh_at(each, index, network, names, *end);
+        if names.contains(end) {
+            refresh_at(each, index, network, names, *end, taken);
+        }
     }
 }
 
@@ -88,7 +111,7 @@ impl Model for Rises {
 
 /// The rises of all nodes where no name is open.
 fn first_rises(alloc: Global, network: &Network) -> Result<Vec<u8>, AllocError>
-    ensures { IfOk result (λ each. AreRises network.now.nodes [] each.items) }
+    ensures { IfOk result (λ each. (left : List ℕ) → AreRises network.now.nodes left [] each.items) }
 {
     let mut each = Vec::with_capacity(alloc, network.nodes().len())?;
     for node in network.nodes() {
@@ -100,7 +123,7 @@ fn first_rises(alloc: Global, network: &Network) -> Result<Vec<u8>, AllocError>
 impl Rises {
     /// The rises where no name is open.
     pub(crate) fn start(alloc: Global, network: &Network) -> Result<Rises, AllocError>
-        ensures { IfOk result (IsRises network.now []) }
+        ensures { IfOk result (λ rises. (left : List ℕ) → IsRises network.now left [] rises) }
     {
         Ok(Rises {
             each: first_rises(alloc, network)?,
@@ -115,13 +138,13 @@ impl Rises {
         &self.each
     }
 
-    /// Makes them right after a node with these ends was taken: now these names are open.
-    pub(crate) fn refresh(&mut self, network: &Network, names: &[u32], ends: &[u32])
+    /// Makes them right after the node at that place was taken, whose ends these are: now these names are open.
+    pub(crate) fn refresh(&mut self, network: &Network, names: &[u32], ends: &[u32], taken: u32)
         requires index { IsEndsIndex network.now.nodes self.old.index }
         requires whole { length self.old.each ≡ length network.now.nodes }
-        ensures { (before : List ℕ) → IsRises network.now before self.old → ((name : ℕ) → is_member ◌==◌ ends.now name ≡ false → is_member ◌==◌ names.now name ≡ is_member ◌==◌ before name)
-            → IsRises network.now names.now self.new }
+        ensures { (before left next : List ℕ) → IsRises network.now left before self.old → IsAfter network.now.nodes taken ends.now names.now before left next
+            → IsRises network.now next names.now self.new }
     {
-        refresh(&mut self.each, &self.index, network, names, ends);
+        refresh(&mut self.each, &self.index, network, names, ends, taken);
     }
 }

@@ -7,9 +7,9 @@ use Rattle.std.specs.Result.{IfErr}
 use Rattle.frontier_sweep.specs.Frontiers.{Frontier, IsFrontier, IsLimitAfter}
 use Rattle.frontier_sweep.specs.NotGluedNodes.{Explains}
 use Rattle.std.specs.Set.{is_member}
-use Rattle.frontier_sweep.specs.Rises.{Rises, IsRises}
+use Rattle.frontier_sweep.specs.Rises.{Rises, IsRises, IsAfter}
 use Rattle.frontier_sweep.specs.Steps.{IsReady, IsSeamOf}
-use Rattle.frontier_sweep.proofs.FrontierLemmas.{place_in_network, taking, ready, limit, beside, next_frontier}
+use Rattle.frontier_sweep.proofs.FrontierLemmas.{place_in_network, taking, ready, limit, after_it, next_frontier}
 use Rattle.frontier_sweep.proofs.frontier.Frontier.advance.Goals as goal
 
 pub bounds-nodes-place : goal.bounds-nodes-place
@@ -69,16 +69,19 @@ returns-clause-after c order h =
     let names_after = c.into_names-self-inside.ensures in
     let open_now = c.as_slice.ensures.value in
     let ends = c.ends.ensures.value in
-    let beside_node : (name : ℕ) → is_member ◌==◌ c.ends.result.now name ≡ false → is_member ◌==◌ c.as_slice.result.now name ≡ is_member ◌==◌ c.args.self.now.names name =
-    λ name apart.
-    ap (λ (names : List ℕ). is_member ◌==◌ names name) (open_now ∙ names_after)
-    ∙ beside m delta network order c.args.self.now c.args.turns.now h c.args.place node taken c.in_ok-seam.seam seam name (ap (λ (ends : List ℕ). is_member ◌==◌ ends name) (sym ends) ∙ apart) in
-    let rises : IsRises network c.as_slice.result.now c.refresh.new.self = c.refresh.ensures c.args.self.now.names (subst (IsRises network c.args.self.now.names) (ap (λ (frontier : Frontier). frontier.rises) (sym c.self.view_is)) h.rises_are) beside_node in
+    let new_left = c.remove.ensures.items ∙ ap (λ (left : List ℕ). remove left at) left in
+    let after_node = after_it m delta network order c.args.self.now c.args.turns.now h c.args.place node taken c.in_ok-seam.seam seam at in_range here in
+    let shown : IsAfter network.nodes c.args.place c.ends.result.now c.as_slice.result.now c.args.self.now.names c.args.self.now.left (remove c.args.self.now.left at) =
+    subst (λ (ends : List ℕ). IsAfter network.nodes c.args.place ends c.as_slice.result.now c.args.self.now.names c.args.self.now.left (remove c.args.self.now.left at)) (sym ends)
+    (subst (λ (names : List ℕ). IsAfter network.nodes c.args.place node.ends names c.args.self.now.names c.args.self.now.left (remove c.args.self.now.left at)) (sym (open_now ∙ names_after)) after_node) in
+    let was = subst (IsRises network c.args.self.now.left c.args.self.now.names) (ap (λ (frontier : Frontier). frontier.rises) (sym c.self.view_is)) h.rises_are in
+    let rises : IsRises network (remove c.args.self.now.left at) c.as_slice.result.now c.refresh.new.self = c.refresh.ensures c.args.self.now.names c.args.self.now.left (remove c.args.self.now.left at) was shown in
+    let rises_now = subst (λ (names : List ℕ). IsRises network (remove c.args.self.now.left at) names c.refresh.new.self) open_now rises in
     next_frontier m delta network order c.args.self.now c.args.turns.now h c.args.place node taken c.in_ok-seam.seam seam glued.node at in_range here
-    _ _ (c.remove.ensures.items ∙ ap (λ (left : List ℕ). remove left at) left) names_after _ (subst (λ (names : List ℕ). IsRises network names c.refresh.new.self) open_now rises) next next_is few c.glue_node.new.turns turns
+    _ _ new_left names_after _ (subst (λ (left : List ℕ). IsRises network left c.into_names-self-inside.result.items c.refresh.new.self) (sym new_left) rises_now) next next_is few c.glue_node.new.turns turns
 
-kept_rises : (c : goal.After-ends) → IsRises c.args.network.now c.args.self.now.names c.self.inside.rises
-kept_rises c = subst (IsRises c.args.network.now c.args.self.now.names) (ap (λ (frontier : Frontier). frontier.rises) (sym c.self.view_is)) (c.requires.frontier.1).rises_are
+kept_rises : (c : goal.After-ends) → IsRises c.args.network.now c.args.self.now.left c.args.self.now.names c.self.inside.rises
+kept_rises c = subst (IsRises c.args.network.now c.args.self.now.left c.args.self.now.names) (ap (λ (frontier : Frontier). frontier.rises) (sym c.self.view_is)) (c.requires.frontier.1).rises_are
 
 pub refresh-requires-clause-index : goal.refresh-requires-clause-index
 refresh-requires-clause-index c = (kept_rises c).index
