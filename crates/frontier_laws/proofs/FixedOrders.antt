@@ -3,7 +3,7 @@ use Rattle.std.proofs.Common.{◌≡◌, ℕ, zero, suc, ◌+◌, ◌<◌, ◌�
 use Rattle.std.proofs.lemmas.List.{take-map, take_more}
 use Rattle.state_sums.specs.Networks.{Node, Network, IsNetwork}
 use Rattle.arc_gluing.specs.Laws.{AreFew}
-use Rattle.frontier_laws.specs.Orders.{View, IsPartOrder, IsChosen, taken, node_at, open_with, view_after}
+use Rattle.frontier_laws.specs.Orders.{View, IsPartOrder, taken, node_at, open_with, view_after}
 use Rattle.frontier_laws.specs.Turns.{IsWithinAt, IsWithin, IsLimited, open_count, pairing_count}
 use Rattle.frontier_laws.specs.Laws.{IsFixed, IsAnswered, IsOneLimit}
 use Rattle.frontier_laws.proofs.OpenNames.{open_count-after}

@@ -1,12 +1,12 @@
 -- By how much the number of open names rises when a node is taken: what it is beside the number of names that are open then, and
 -- that it depends on no name but the node's ends. The names that are ends are counted along the names and along the ends.
-use Rattle.std.proofs.Common.{◌≡◌, ℕ, ◌+◌, ◌-◌, ◌<◌, ◌≤◌, ◌==◌, ◌&&◌, Bool, true, cond, not, List, [], ◌∷◌, ◌++◌, length, refl, sym, ap, ◌∙◌, arith}
+use Rattle.std.proofs.Common.{◌≡◌, ℕ, ◌+◌, ◌≤◌, ◌==◌, ◌&&◌, Bool, true, cond, not, List, [], ◌∷◌, ◌++◌, length, refl, sym, ap, ◌∙◌, arith}
 use Rattle.std.specs.List.{sum_by, count_by}
 use Rattle.std.specs.Set.{is_member}
 use Rattle.std.proofs.lemmas.Bool.{eq-eqb, or_left, or_right}
 use Rattle.std.proofs.lemmas.Bool.Decides.{nat_tests}
 use Rattle.std.proofs.lemmas.List.Sums.{sum_by-cons, count_by-le-length}
-use Rattle.state_sums.specs.Networks.{Node, names_of}
+use Rattle.state_sums.specs.Networks.{Node}
 use Rattle.graph_parts.proofs.PartLaws.{count_by_all}
 use Rattle.graph_parts.proofs.Rounds.{count_by-cons}
 use Rattle.list_lemmas.proofs.Sums.{sum_by_same}
