@@ -49,7 +49,7 @@ module _ (a b c : ℕ) where
       let z : 0 + i ≡ i = omega arith in
       get_or-map (vertex_point a b c) (range_with_len 0 n) i 0 0 (omega (arith, h, long)) ∙ ap (vertex_point a b c) (get_or-range_with_len 0 n i 0 h ∙ z)
 
-  IsPairing-vertex : IsPairing (vertex_partner a b c)
+  pub IsPairing-vertex : IsPairing (vertex_partner a b c)
   IsPairing-vertex = record {
     within = λ i l. let n = vertex_length in let e = vertex_at i (omega (arith, l, n)) in let w = point_within a b c i (omega (arith, l, n)) in omega (arith, e, w, n);
     apart = λ i l s. let n = vertex_length in let e = vertex_at i (omega (arith, l, n)) in point_apart a b c i (omega (arith, l, n)) (sym e ∙ s);

@@ -1,14 +1,24 @@
 //! The network of a diagram whose components all have colour 1.
 
-ghost use Rattle.std.specs.Prelude.{◌≡◌, ◌≤◌, IfOk, length};
+ghost use Rattle.std.specs.Prelude.{◌≡◌, ◌≤◌, IfOk, length, map};
+ghost use Rattle.std.specs.List.{All};
 ghost use Rattle.state_sums.specs.Networks.{WeightsBelow};
-ghost use Rattle.diagram_brackets.specs.Brackets.{bracket_network};
+ghost use Rattle.diagram_brackets.specs.Brackets.{bracket_network, strand_name};
 
 use crate::crossing::crossing_node;
 use arc_pairing::{Network, NetworkFault};
 use pd_reader::{Diagram, Item};
 use root_quantum::Params;
 use std::alloc::{AllocError, Global};
+
+/// The names of the strands at the slots, for edges of colour 1.
+fn strand_names(slots: &[u32; 4]) -> [u32; 4]
+    requires { All (λ label. label ≤ 2000000) slots.now }
+    ensures { result ≡ map strand_name slots.now }
+{
+    let [a, b, c, d] = *slots;
+    [16 * a, 16 * b, 16 * c, 16 * d]
+}
 
 /// The network of the diagram with all colours 1: a node for each crossing, in the order of the items,
 /// and a free loop for each `Loop`.
@@ -29,7 +39,7 @@ pub fn bracket_network(
         match item {
             Item::X(slots) => {
                 let group = nodes.len() as u32 + 1;
-                nodes.push(crossing_node(alloc, params, group, slots)?)?;
+                nodes.push(crossing_node(alloc, params, group, &strand_names(slots))?)?;
             }
             Item::Loop(_) => free += 1,
         }

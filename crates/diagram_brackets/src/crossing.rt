@@ -1,9 +1,7 @@
 //! The node of a crossing.
 
-ghost use Rattle.std.specs.Prelude.{◌≡◌, ◌≤◌, ◌<◌, IfOk, length, map};
-ghost use Rattle.std.specs.List.{All};
+ghost use Rattle.std.specs.Prelude.{◌≡◌, IfOk};
 ghost use Rattle.diagram_brackets.specs.Crossings.{crossing_node, joins_ab_cd, joins_ad_bc};
-ghost use Rattle.diagram_brackets.specs.Brackets.{strand_name};
 
 use arc_pairing::{Node, NodeFault, Pairing, Term};
 use root_quantum::Params;
@@ -29,18 +27,17 @@ fn joins_ad_bc() -> Pairing
     }
 }
 
-/// The node of the crossing `X[a,b,c,d]` with these slots, each edge of colour 1.
-pub(crate) fn crossing_node(
+/// The node of a crossing `X[a,b,c,d]` whose slots a, b, c, d have these names, in this order: A where ab and cd
+/// are joined, A^-1 where ad and bc are. The only error is want of memory. (Lickorish, ch. 13.)
+pub fn crossing_node(
     alloc: Global,
     params: &Params,
     group: u32,
-    slots: &[u32; 4],
+    ends: &[u32; 4],
 ) -> Result<Node, AllocError>
-    requires { All (λ label. label ≤ 2000000) slots.now }
-    ensures { IfOk result (λ node. node ≡ crossing_node params.now group (map strand_name slots.now)) }
+    ensures { IfOk result (λ node. node ≡ crossing_node params.now group ends.now) }
 {
-    let [a, b, c, d] = *slots;
-    let ends = [16 * a, 16 * b, 16 * c, 16 * d];
+    let [a, b, c, d] = *ends;
     let terms = [
         Term {
             weight: params.root(),
@@ -51,7 +48,7 @@ pub(crate) fn crossing_node(
             pairing: joins_ad_bc(),
         },
     ];
-    match Node::new(alloc, group, &ends, &terms) {
+    match Node::new(alloc, group, &[a, b, c, d], &terms) {
         Ok(node) => Ok(node),
         Err(NodeFault::Long { .. }) => unreachable!(),
         Err(NodeFault::TooMany { .. }) => unreachable!(),

@@ -5,3 +5,4 @@ mod bracket;
 mod crossing;
 
 pub use bracket::bracket_network;
+pub use crossing::crossing_node;

@@ -16,6 +16,7 @@ mod strands;
 pub use closing::close;
 pub use element::Element;
 pub use operations::{add, beside, hook, identity, multiply, scale};
+pub use strands::straight;
 
 #[cfg(test)]
 mod tests;

@@ -7,8 +7,8 @@ ghost use Rattle.strand_algebra.specs.Laws.{IsNoncrossingOn};
 use arc_pairing::Pairing;
 use arrayvec::ArrayVec;
 
-/// Straight strands: point i is paired with point 2n-1-i.
-pub(crate) fn straight(strands: u32) -> Pairing
+/// Straight strands, at most 8: point i is paired with point 2n-1-i, for n strands.
+pub fn straight(strands: u32) -> Pairing
     requires { strands ≤ 8 }
     ensures { result ≡ straight strands }
 {

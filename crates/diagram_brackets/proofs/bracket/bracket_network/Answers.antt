@@ -2,13 +2,14 @@ use Rattle.std.proofs.Common.{take, ◌≡◌, ◌+◌, ◌++◌, ◌∷◌, [],
 use Rattle.state_sums.specs.Networks.{names_of, WeightsBelow}
 use Rattle.pd_reader.specs.declared.item.Item.TheVariants.{X, Loop}
 use Rattle.arc_pairing.specs.Counts.{StandsTwice}
+use Rattle.diagram_brackets.specs.Crossings.{crossing_node}
 use Rattle.diagram_brackets.specs.Brackets.{crossing_nodes}
 use Rattle.diagram_brackets.proofs.Strands.{one_crossing, one_loop, loops_more, slots_within, stands_twice, never_miscounted, weights_below}
 use Rattle.diagram_brackets.proofs.bracket.bracket_network.Goals as goal
 use Rattle.diagram_brackets.proofs.bracket.bracket_network.Goals.{in-X+in_ok-crossing_node-in-X+in_ok-push-in-X, in-Loop}
 
-pub crossing_node-requires : goal.crossing_node-requires
-crossing_node-requires c =
+pub strand_names-requires : goal.strand_names-requires
+strand_names-requires c =
     let same = c.items-item-items.ensures.items in
     let n = ap length same in
     let l = c.loop-item-test.true in
@@ -28,7 +29,7 @@ loop-item-preserved c =
           let long : length c.match-item.nodes.items ≡ length c.loop-item.nodes.items + 1 = ap length pushed ∙ length-append c.loop-item.nodes.items (w.in_ok-crossing_node-in-X.field-0 ∷ []) in
           let n = w.free-is in (
             one_crossing c.args.params.now items c.loop-item.item-index w.len.result w.in-X.slots c.loop-item.nodes.items c.match-item.nodes.items w.in_ok-crossing_node-in-X.field-0 l w.in-X.is nodes
-                (let k = w.len.ensures in omega (arith, k)) w.in_ok-crossing_node-in-X.ensures pushed,
+                (let k = w.len.ensures in omega (arith, k)) (w.in_ok-crossing_node-in-X.ensures ∙ ap (crossing_node c.args.params.now (w.len.result + 1)) w.strand_names.ensures) pushed,
             n ∙ free ∙ omega (arith, loops),
             omega (arith, long, n, count),
           )
