@@ -7,7 +7,7 @@ use Rattle.std.proofs.lemmas.List.Elements.{All-head, All-tail}
 use Rattle.std.proofs.lemmas.List.Sums.{AllPass-from_list_all}
 use Rattle.pd_reader.specs.declared.item.Item.{Item}
 use Rattle.diagram_moves.specs.Moves.{given, unless, finished, slot_pairs, slot_triples, four}
-use Rattle.diagram_moves.specs.declared.step.Factor.{Factor}
+use Rattle.diagram_moves.specs.declared.factor.Factor.{Factor}
 use Rattle.diagram_moves.specs.declared.fault.MoveFault.{MoveFault}
 use Rattle.diagram_moves.specs.declared.fault.MoveFault.TheVariants.{TooMany}
 use Rattle.diagram_moves.specs.Steps.{Answer, Moved}

@@ -9,7 +9,7 @@ use Rattle.planar_check.specs.Places.{other_place}
 use Rattle.planar_check.specs.Planar.{face_of}
 use Rattle.diagram_moves.specs.Moves.{move}
 use Rattle.diagram_moves.specs.Steps.{Answer}
-use Rattle.diagram_moves.specs.declared.step.Step.TheVariants.{R2, R2Undo, R3, Curl, CurlUndo}
+use Rattle.script_reader.specs.declared.step.Step.TheVariants.{R2, R2Undo, R3, Curl, CurlUndo}
 use Rattle.diagram_moves.specs.declared.fault.MoveFault.TheVariants.{NoCrossing, SameEdge, LoopEdge, NotSameFace, NotBigon, NotTriangle, NotCurl}
 
 abbrev x : ℕ → ℕ → ℕ → ℕ → Item

@@ -15,7 +15,7 @@ use Rattle.diagram_moves.proofs.Nodes.{nodes_of}
 use Rattle.planar_check.specs.Planar.{face_of}
 use Rattle.diagram_moves.specs.Moves.{move}
 use Rattle.diagram_moves.specs.Scripts.{played}
-use Rattle.diagram_moves.specs.declared.step.Step.TheVariants.{R2, R2Undo, R3, Curl, CurlUndo, BlowUp}
+use Rattle.script_reader.specs.declared.step.Step.TheVariants.{R2, R2Undo, R3, Curl, CurlUndo, BlowUp}
 use Rattle.diagram_moves.specs.declared.fault.MoveFault.TheVariants.{NoEdge, NoCrossing, SameEdge, LoopEdge, NotSameFace, NotBigon, NotTriangle, NotCurl, TooMany}
 use Rattle.diagram_moves.specs.Steps.{Answer, Moved}
 

@@ -20,8 +20,8 @@ use Rattle.state_sums.proofs.Congruent.{pow_0, pow_1}
 use Rattle.diagram_moves.specs.Laws.{PlainMovesLaw, IsPairedDiagram}
 use Rattle.diagram_moves.specs.Moves.{plain, second_place, pushed, bigon_classes, is_triangle, triangle_rewritten, triangle_slots, curl_classes, curl_of, curl_slots, curled_loop, closing, removed, finished}
 use Rattle.diagram_moves.specs.Rewriting.{slot, crossing_at, fresh, at_places}
-use Rattle.diagram_moves.specs.declared.step.Step.TheVariants.{R2, R2Undo, R3, Curl, CurlUndo, BlowUp}
-use Rattle.diagram_moves.specs.declared.step.Factor.{Factor}
+use Rattle.script_reader.specs.declared.step.Step.TheVariants.{R2, R2Undo, R3, Curl, CurlUndo, BlowUp}
+use Rattle.diagram_moves.specs.declared.factor.Factor.{Factor}
 use Rattle.diagram_moves.specs.Steps.{Moved}
 use Rattle.diagram_moves.specs.Values.{factor_value}
 use Rattle.diagram_moves.proofs.Accepted.{finished_Ok}

@@ -13,9 +13,9 @@ use Rattle.planar_check.specs.declared.sign.Sign.{Sign}
 use Rattle.planar_check.specs.declared.sign.Sign.TheVariants as signs
 use Rattle.diagram_moves.specs.Moves.{move, plain, is_loop, is_edge, same_face, second_place, pushed, is_bigon, bigon_classes, slot_pairs, slot_triples, four, is_triangle, triangle_rewritten, is_curl, curl_classes, curl_of, curl_slots, curled_loop, closing, removed, finished, first_place_of}
 use Rattle.diagram_moves.specs.Rewriting.{slot, crossing_at, crossing_labels, fresh, at_places}
-use Rattle.diagram_moves.specs.declared.step.Step.{Step}
-use Rattle.diagram_moves.specs.declared.step.Step.TheVariants.{R2, R2Undo, R3, Curl, CurlUndo, BlowUp}
-use Rattle.diagram_moves.specs.declared.step.Factor.{Factor}
+use Rattle.script_reader.specs.declared.step.Step.{Step}
+use Rattle.script_reader.specs.declared.step.Step.TheVariants.{R2, R2Undo, R3, Curl, CurlUndo, BlowUp}
+use Rattle.diagram_moves.specs.declared.factor.Factor.{Factor}
 use Rattle.diagram_moves.specs.declared.fault.MoveFault.TheVariants.{NoEdge, NoCrossing, SameEdge, LoopEdge, NotSameFace, NotBigon, NotTriangle, NotCurl}
 use Rattle.diagram_moves.specs.Steps.{Moved}
 use Rattle.diagram_moves.proofs.Accepted.{given_Ok, unless_Ok, finished_Ok, finished_few, passing_test, small_pair, small_triple, low_pair, low_triple, small_pairs, small_triples, small_slots}

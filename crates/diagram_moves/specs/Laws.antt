@@ -8,7 +8,7 @@ use Rattle.pd_reader.specs.Items.{item_labels, HasItsSlots}
 use Rattle.pd_reader.specs.Diagrams.{labels, times}
 use Rattle.diagram_brackets.specs.Brackets.{bracket}
 use Rattle.diagram_moves.specs.Moves.{move}
-use Rattle.diagram_moves.specs.declared.step.Step.{Step}
+use Rattle.script_reader.specs.declared.step.Step.{Step}
 use Rattle.diagram_moves.specs.Steps.{Moved}
 use Rattle.diagram_moves.specs.Values.{factor_value}
 

@@ -24,9 +24,9 @@ use Rattle.planar_check.specs.declared.sign.Sign.TheVariants as signs
 use Rattle.planar_check.specs.Places.{place_labels, crossings_of, first_place, other_place}
 use Rattle.planar_check.specs.Planar.{face_of}
 use Rattle.diagram_moves.specs.Rewriting.{slot, around, crossing_at, rewritten, at_places, crossing_labels, fresh}
-use Rattle.diagram_moves.specs.declared.step.Step.{Step}
-use Rattle.diagram_moves.specs.declared.step.Step.TheVariants.{R2, R2Undo, R3, Curl, CurlUndo, BlowUp}
-use Rattle.diagram_moves.specs.declared.step.Factor.{Factor}
+use Rattle.script_reader.specs.declared.step.Step.{Step}
+use Rattle.script_reader.specs.declared.step.Step.TheVariants.{R2, R2Undo, R3, Curl, CurlUndo, BlowUp}
+use Rattle.diagram_moves.specs.declared.factor.Factor.{Factor}
 use Rattle.diagram_moves.specs.declared.fault.MoveFault.{MoveFault}
 use Rattle.diagram_moves.specs.declared.fault.MoveFault.TheVariants.{NoEdge, NoCrossing, SameEdge, LoopEdge, NotSameFace, NotBigon, NotTriangle, NotCurl, TooMany}
 use Rattle.diagram_moves.specs.Steps.{Answer}

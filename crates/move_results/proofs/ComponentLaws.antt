@@ -18,8 +18,8 @@ use Rattle.diagram_moves.specs.Laws.{IsPairedDiagram}
 use Rattle.move_results.specs.Laws.{ComponentsLaw}
 use Rattle.diagram_moves.specs.Moves.{curl_slots, curled_loop}
 use Rattle.diagram_moves.specs.Rewriting.{crossing_labels, fresh}
-use Rattle.diagram_moves.specs.declared.step.Factor.{Factor}
-use Rattle.diagram_moves.specs.declared.step.Step.TheVariants.{R2, R2Undo, R3, Curl, CurlUndo, BlowUp}
+use Rattle.diagram_moves.specs.declared.factor.Factor.{Factor}
+use Rattle.script_reader.specs.declared.step.Step.TheVariants.{R2, R2Undo, R3, Curl, CurlUndo, BlowUp}
 use Rattle.move_results.proofs.ClosedComponents.{pulled_components, uncurled_components}
 use Rattle.move_results.proofs.CurledComponents.{curled_components}
 use Rattle.diagram_moves.proofs.Curling.{loop_label, loop_label_e, loop_label_k, low_e, is_loop_label, loop_slots_four, sizes-curled_loop}

@@ -12,9 +12,9 @@ use Rattle.diagram_moves.specs.Laws.{IsPairedDiagram}
 use Rattle.move_results.specs.Laws.{DiagramAgainLaw}
 use Rattle.diagram_moves.specs.Moves.{move}
 use Rattle.diagram_moves.specs.Rewriting.{fresh}
-use Rattle.diagram_moves.specs.declared.step.Step.{Step}
-use Rattle.diagram_moves.specs.declared.step.Factor.{Factor}
-use Rattle.diagram_moves.specs.declared.step.Step.TheVariants.{R2, R2Undo, R3, Curl, CurlUndo, BlowUp}
+use Rattle.script_reader.specs.declared.step.Step.{Step}
+use Rattle.diagram_moves.specs.declared.factor.Factor.{Factor}
+use Rattle.script_reader.specs.declared.step.Step.TheVariants.{R2, R2Undo, R3, Curl, CurlUndo, BlowUp}
 use Rattle.diagram_moves.specs.Steps.{Moved}
 use Rattle.move_results.proofs.ClosedComponents.{pulled_contracts, uncurled_contracts}
 use Rattle.move_results.proofs.ComponentLaws as loops

@@ -18,8 +18,8 @@ use Rattle.diagram_moves.proofs.NoNumbers.{nothing, modulo_one}
 use Rattle.diagram_moves.proofs.Pulling.{recounted, curl_recounted, wrapped}
 use Rattle.diagram_moves.proofs.Pushing.{sizes-pushed, pushed_times, new_four, new_four_old, new_four_most, crossing_labels-append}
 use Rattle.diagram_moves.proofs.Results.{Reached, by_push, by_pull, by_slide, by_curl, by_curl_on_loop, by_uncurl, reached, blown_up}
-use Rattle.diagram_moves.specs.declared.step.Factor.{Factor}
-use Rattle.diagram_moves.specs.declared.step.Step.TheVariants.{R2, R2Undo, R3, Curl, CurlUndo, BlowUp}
+use Rattle.diagram_moves.specs.declared.factor.Factor.{Factor}
+use Rattle.script_reader.specs.declared.step.Step.TheVariants.{R2, R2Undo, R3, Curl, CurlUndo, BlowUp}
 use Rattle.diagram_moves.proofs.Rewritten.{anew, loop_labels-rewritten}
 use Rattle.diagram_moves.proofs.Triangles.{sizes-triangle, after_times}
 use Rattle.list_lemmas.specs.Times.{times_in}
