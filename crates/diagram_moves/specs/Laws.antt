@@ -9,7 +9,8 @@ use Rattle.list_lemmas.specs.Times.{times_in}
 use Rattle.pd_reader.specs.Diagrams.{labels}
 use Rattle.diagram_brackets.specs.Brackets.{bracket}
 use Rattle.diagram_moves.specs.Moves.{move}
-use Rattle.diagram_moves.specs.Steps.{Step, Moved}
+use Rattle.script_reader.specs.declared.step.Step.{Step}
+use Rattle.diagram_moves.specs.Steps.{Moved}
 use Rattle.diagram_moves.specs.Values.{factor_value}
 
 -- each crossing has four slots, and each label stands twice

@@ -13,26 +13,30 @@ use Rattle.planar_check.specs.declared.sign.Sign.{Sign}
 use Rattle.planar_check.specs.declared.sign.Sign.TheVariants as signs
 use Rattle.diagram_moves.specs.Moves.{move, plain, is_loop, is_edge, same_face, second_place, pushed, is_bigon, bigon_classes, slot_pairs, slot_triples, four, is_triangle, triangle_rewritten, is_curl, curl_classes, curl_of, curl_slots, curled_loop, closing, removed, finished, first_place_of}
 use Rattle.diagram_moves.specs.Rewriting.{slot, crossing_at, crossing_labels, fresh, at_places}
-use Rattle.diagram_moves.specs.Steps.{Step, R2, R2Undo, R3, Curl, CurlUndo, BlowUp, Factor, Moved, NoEdge, NoCrossing, SameEdge, LoopEdge, NotSameFace, NotBigon, NotTriangle, NotCurl}
+use Rattle.script_reader.specs.declared.step.Step.{Step}
+use Rattle.script_reader.specs.declared.step.Step.TheVariants.{R2, R2Undo, R3, Curl, CurlUndo, BlowUp}
+use Rattle.diagram_moves.specs.declared.factor.Factor.{Factor}
+use Rattle.diagram_moves.specs.declared.fault.MoveFault.TheVariants.{NoEdge, NoCrossing, SameEdge, LoopEdge, NotSameFace, NotBigon, NotTriangle, NotCurl}
+use Rattle.diagram_moves.specs.Steps.{Moved}
 use Rattle.diagram_moves.proofs.Accepted.{given_Ok, unless_Ok, finished_Ok, finished_few, passing_test, small_pair, small_triple, low_pair, low_triple, small_pairs, small_triples, small_slots}
 use Rattle.planar_check.specs.Places.{place_labels}
 
-pub data Reached (items : List Item) : List Item → Type 0 where
-  by_push : (e f : ℕ) (first_of_e first_of_f : Bool) → is_member ◌==◌ (crossing_labels items) e ≡ true → is_member ◌==◌ (crossing_labels items) f ≡ true → (e ≡ f → ⊥) → Reached items (pushed items e f first_of_e first_of_f)
+pub data Reached (items : List Item) : Factor → List Item → Type 0 where
+  by_push : (e f : ℕ) (first_of_e first_of_f : Bool) → is_member ◌==◌ (crossing_labels items) e ≡ true → is_member ◌==◌ (crossing_labels items) f ≡ true → (e ≡ f → ⊥) → Reached items plain (pushed items e f first_of_e first_of_f)
   by_pull : (c g : ℕ) (here there : List ℕ) (s t : ℕ) → crossing_at items c ≡ Some here → crossing_at items g ≡ Some there → (g == c) ≡ false → s < 4 → t < 4 → is_bigon here there (s, t) ≡ true →
-      Reached items (closing (least_label (bigon_classes here there (s, t))) (slot here s) (slot there (t + 1)) (removed (g ∷ c ∷ []) (least_label (bigon_classes here there (s, t))) items))
+      Reached items plain (closing (least_label (bigon_classes here there (s, t))) (slot here s) (slot there (t + 1)) (removed (g ∷ c ∷ []) (least_label (bigon_classes here there (s, t))) items))
   by_slide : (c g f : ℕ) (here there beyond : List ℕ) (s t u : ℕ) → crossing_at items c ≡ Some here → crossing_at items g ≡ Some there → crossing_at items f ≡ Some beyond →
-      (c == g || (g == f || c == f)) ≡ false → s < 4 → t < 4 → u < 4 → is_triangle here there beyond (s, (t, u)) ≡ true → Reached items (triangle_rewritten items c g f here there beyond (s + 3) t u)
+      (c == g || (g == f || c == f)) ≡ false → s < 4 → t < 4 → u < 4 → is_triangle here there beyond (s, (t, u)) ≡ true → Reached items plain (triangle_rewritten items c g f here there beyond (s + 3) t u)
   by_curl : (e : ℕ) (sign : Sign) → is_member ◌==◌ (crossing_labels items) e ≡ true →
-      Reached items (at_places (λ q label. cond (q == second_place items e) (fresh items + 1) label) 0 items ++ item.X (curl_slots e (fresh items + 1) (fresh items) sign) ∷ [])
+      Reached items (curl_of sign) (at_places (λ q label. cond (q == second_place items e) (fresh items + 1) label) 0 items ++ item.X (curl_slots e (fresh items + 1) (fresh items) sign) ∷ [])
   by_curl_on_loop : (e : ℕ) (sign : Sign) → is_member ◌==◌ (labels item_labels items) e ≡ true → is_member ◌==◌ (crossing_labels items) e ≡ false →
-      Reached items (curled_loop e (curl_slots e e (fresh items) sign) items)
+      Reached items (curl_of sign) (curled_loop e (curl_slots e e (fresh items) sign) items)
   by_uncurl : (c : ℕ) (here : List ℕ) (s : ℕ) → crossing_at items c ≡ Some here → s < 4 → is_curl here s ≡ true →
-      Reached items (closing (least_label (curl_classes here s)) (slot here s) (slot here s) (removed (c ∷ []) (least_label (curl_classes here s)) items))
+      Reached items (curl_of (cond (s % 2 == 0) signs.Minus signs.Plus)) (closing (least_label (curl_classes here s)) (slot here s) (slot here s) (removed (c ∷ []) (least_label (curl_classes here s)) items))
 
 module _ (items : List Item) where
-  done : (factor : Factor) (after : List Item) (moved : Moved) → finished factor after ≡ Ok moved → Reached items after → Reached items moved.items × (length moved.items ≤ 256)
-  done factor after moved h r = (subst (λ (w : Moved). Reached items w.items) (sym (finished_Ok factor after moved h)) r, finished_few factor after moved h)
+  done : (factor : Factor) (after : List Item) (moved : Moved) → finished factor after ≡ Ok moved → Reached items factor after → Reached items moved.factor moved.items × (length moved.items ≤ 256)
+  done factor after moved h r = (subst (λ (w : Moved). Reached items w.factor w.items) (sym (finished_Ok factor after moved h)) r, finished_few factor after moved h)
 
   inside : (e : ℕ) → is_loop items e ≡ false → is_member ◌==◌ (crossing_labels items) e ≡ true
   inside e h = grind (arith, h)
@@ -52,7 +56,7 @@ blown_up items sign moved h = ap (λ (w : Moved). w.items) (finished_Ok record {
 pub blown_few : (items : List Item) (sign : Sign) (moved : Moved) → move items (BlowUp sign) ≡ Ok moved → length moved.items ≤ 256
 blown_few items sign moved h = finished_few record { curl = pos 0; circle = 1 } (items ++ item.Loop (fresh items) ∷ []) moved h
 
-pub reached : (items : List Item) (step : Step) (moved : Moved) → is_blow_up step ≡ false → move items step ≡ Ok moved → Reached items moved.items × (length moved.items ≤ 256)
+pub reached : (items : List Item) (step : Step) (moved : Moved) → is_blow_up step ≡ false → move items step ≡ Ok moved → Reached items moved.factor moved.items × (length moved.items ≤ 256)
 reached items (R2 e f) moved other h =
     let h1 = unless_Ok (not (is_edge items e)) (NoEdge e) _ moved h in
     let h2 = unless_Ok (not (is_edge items f)) (NoEdge f) _ moved h1.1 in
