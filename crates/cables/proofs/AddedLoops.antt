@@ -13,7 +13,7 @@ use Rattle.root_quantum.specs.QuantumNumbers.{loop_value}
 use Rattle.pd_reader.specs.declared.item.NetItem.{NetItem}
 use Rattle.pd_reader.specs.declared.item.NetItem.TheVariants.{X, Y, Loop}
 use Rattle.pd_reader.specs.Items.{net_item_labels}
-use Rattle.pd_reader.specs.Diagrams.{labels, times, IsNet}
+use Rattle.pd_reader.specs.Diagrams.{labels, IsNet}
 use Rattle.std.proofs.lemmas.List.Elements.{All-weaker}
 use Rattle.cables.specs.Strands.{Strands, strands_of, first_names}
 use Rattle.cables.specs.Cables.{Standing, passed, loop_nodes, item_nodes, cable_nodes, loop_count, loops_at, count_placed, start, Fits}
@@ -22,7 +22,7 @@ use Rattle.cables.proofs.NameCounts.{times-reverse}
 use Rattle.list_lemmas.proofs.Times.{times_in-append, times_of_member}
 use Rattle.cables.proofs.CableNames.{cable-times}
 use Rattle.cables.proofs.InnerNames.{inner_total_range}
-use Rattle.cables.proofs.LabelNames.{times-turned, member_none, zero_or_some, outer_times}
+use Rattle.cables.proofs.LabelNames.{member_none, zero_or_some, outer_times}
 use Rattle.cables.proofs.NumberedStrands.{first_length, as_many_strands, only_label, plain_second, first_once, box_once, label_low}
 use Rattle.cables.proofs.CableIsNodes.{IsGood, cable_good}
 use Rattle.cables.proofs.CableLaws.{cable_network}
@@ -98,7 +98,7 @@ added_loop p colour boxed box items label net few boxes fits low new projector =
     ∙ loop_law p box (colour label) group label (few label) projector)
   where
     no_both : (p : Parameters) (colour : ℕ → ℕ) (boxed : ℕ → Bool) (box : ℕ → List Term) (items : List NetItem) → IsNet items → ((l : ℕ) → colour l ≤ 8) → AllByRecursion (Fits (strands_of colour boxed box)) items →
-        (x label : ℕ) → label ≤ 2000000 → times label (labels net_item_labels items) ≡ 0 →
+        (x label : ℕ) → label ≤ 2000000 → times_in (labels net_item_labels items) label ≡ 0 →
         1 ≤ times_in (names_of (cable_nodes p (strands_of colour boxed box) (start items) items)) x → 1 ≤ times_in (first_names (colour label) label) x → ⊥
     no_both p colour boxed box items net few fits x label low new mine here =
         let strands : Strands = strands_of colour boxed box in
@@ -118,6 +118,5 @@ added_loop p colour boxed box items label net few boxes fits low new projector =
         let k = some.1 in
         let stands = (outer.1.1.1 (omega (arith, k))).0 in
         let z = ap (times_in (labels net_item_labels items)) own in
-        let t = times-turned label (labels net_item_labels items) in
-        omega (arith, stands, z, t, new))
+        omega (arith, stands, z, new))
         (zero_or_some outer.0)

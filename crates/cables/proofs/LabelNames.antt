@@ -5,25 +5,19 @@ use Rattle.std.specs.List.{AllByRecursion}
 use Rattle.std.specs.Set.{is_member}
 use Rattle.std.proofs.lemmas.Bool.{cases_Bool, eqb-true, eq-eqb, or_left, or_right}
 use Rattle.std.proofs.lemmas.Bool.Decides.{nat_tests}
-use Rattle.std.proofs.lemmas.List.Sums.{sum_by-cons}
 use Rattle.graph_parts.proofs.Distinct.{is_member-append}
 use Rattle.state_sums.specs.Networks.{names_of}
 use Rattle.list_lemmas.specs.Times.{times_in}
 use Rattle.pd_reader.specs.declared.item.NetItem.{NetItem}
 use Rattle.pd_reader.specs.declared.item.NetItem.TheVariants.{X, Y, Loop}
 use Rattle.pd_reader.specs.Items.{net_item_labels}
-use Rattle.pd_reader.specs.Diagrams.{labels, times}
+use Rattle.pd_reader.specs.Diagrams.{labels}
 use Rattle.cables.specs.Strands.{Strands}
 use Rattle.cables.specs.Cables.{loop_nodes, places}
 use Rattle.cables.proofs.NameCounts.{at, times-reverse}
 use Rattle.list_lemmas.proofs.Times.{member_of_times, times_of_member, times_in-cons, times_in-append}
 use Rattle.cables.proofs.PlaceNames.{first_times, second_times, place_sum, OnlyLabel, new_sum, none_sum}
 use Rattle.cables.proofs.CableNames.{loop_total, box_total}
-
-pub times-turned : (l : ℕ) (xs : List ℕ) → times l xs ≡ times_in xs l
-times-turned l [] = refl
-times-turned l (y ∷ xs) =
-    let ih = times-turned l xs in let e = sum_by-cons (λ z. cond (z == l) 1 0) y xs in let f = times_in-cons y xs l in grind (arith, nat_tests, ih, e, f)
 
 pub member_none : (l : ℕ) (xs : List ℕ) → times_in xs l ≡ 0 → is_member ◌==◌ xs l ≡ false
 member_none l [] h = refl
@@ -172,7 +166,7 @@ module _ (strands : Strands) (x l : ℕ) (only : OnlyLabel strands x l) where
   module _ (plain : strands.boxed l ≡ false → second_times strands x l ≡ first_times strands x l) (first_once : first_times strands x l ≤ 1)
       (box_once : strands.boxed l ≡ true → first_times strands x l + second_times strands x l ≤ 1) where
     -- THE NAMES OUTSIDE OF GRIDS
-    pub outer_times : (items : List NetItem) → AllByRecursion (λ label. times label (labels net_item_labels items) ≡ 2) (labels net_item_labels items) →
+    pub outer_times : (items : List NetItem) → AllByRecursion (λ label. times_in (labels net_item_labels items) label ≡ 2) (labels net_item_labels items) →
         (h : ℕ) × ((place_sum strands x [] (places items) + box_total strands x l [] items + loop_total strands x items ≡ 2 * h) × ((h ≤ 1) × (1 ≤ h → (1 ≤ times_in (labels net_item_labels items) l) × (1 ≤ first_times strands x l + second_times strands x l))))
     outer_times items twice =
         let ls = labels net_item_labels items in
@@ -191,19 +185,18 @@ module _ (strands : Strands) (x l : ℕ) (only : OnlyLabel strands x l) where
         (0, (omega (arith, a, b, lp0, lp1, k), (omega arith, λ h. absurd (omega (arith, h))))))
         (λ some.
         let stand = some.1 in
-        let is_two = at_label (λ label. times label ls ≡ 2) l ls twice (omega (arith, stand)) in
-        let turned = times-turned l ls in
+        let is_two = at_label (λ label. times_in ls label ≡ 2) l ls twice (omega (arith, stand)) in
         ⊎_elim
         (λ p0.
-        let l1 : loops_of l items ≡ 1 = omega (arith, p0, count, is_two, turned) in
+        let l1 : loops_of l items ≡ 1 = omega (arith, p0, count, is_two) in
         let a = none_sum strands x l only (places items) [] refl p0 in
         let b = no_boxes items [] refl p0 in
         let k = ap (λ n. n * f) l1 in
         (lp.0, (omega (arith, a, b, lp0), (omega (arith, lp1, k, first_once), λ h. (omega (arith, stand), omega (arith, h, lp1, k))))))
         (λ placed.
         let more = placed.1 in
-        let p2 : times_in (places items) l ≡ 2 = omega (arith, more, count, is_two, turned) in
-        let l0 : loops_of l items ≡ 0 = omega (arith, p2, count, is_two, turned) in
+        let p2 : times_in (places items) l ≡ 2 = omega (arith, more, count, is_two) in
+        let l0 : loops_of l items ≡ 0 = omega (arith, p2, count, is_two) in
         let a = new_sum strands x l only (places items) [] 1 refl p2 in
         let b = new_boxes items [] refl (omega (arith, p2)) in
         let k = ap (λ n. n * f) l0 in

@@ -15,7 +15,8 @@ use Rattle.pd_reader.specs.declared.item.NetItem.TheVariants.{Loop}
 use Rattle.root_quantum.specs.QuantumNumbers.{loop_value, delta}
 use Rattle.strand_algebra.specs.Projectors.{IsProjector}
 use Rattle.pd_reader.specs.Items.{HasItsSlots, net_item_labels}
-use Rattle.pd_reader.specs.Diagrams.{IsNet, labels, times}
+use Rattle.list_lemmas.specs.Times.{times_in}
+use Rattle.pd_reader.specs.Diagrams.{IsNet, labels}
 use Rattle.cables.specs.Strands.{Strands, strands_of, first_names, exchanged, renamed_strands}
 use Rattle.cables.specs.Cables.{Standing, cable, cable_nodes, loop_nodes, loops_at, Fits, AreBoxes, as_net}
 use Rattle.cables.specs.Nets.{cabled_net, first_inadmissible, first_unequal, projector_of}
@@ -76,7 +77,7 @@ abbrev pub AddedLoopLaw : Type 0
 AddedLoopLaw =
     (p : Parameters) (colour : ℕ → ℕ) (boxed : ℕ → Bool) (box : ℕ → List Term) (items : List NetItem) (label : ℕ) →
     IsNet items → ((l : ℕ) → colour l ≤ 8) → AreBoxes p.modulus box → AllByRecursion (Fits (strands_of colour boxed box)) items →
-    label ≤ 2000000 → times label (labels net_item_labels items) ≡ 0 → IsProjector p.modulus (loop_value p) (colour label) (box (colour label)) →
+    label ≤ 2000000 → times_in (labels net_item_labels items) label ≡ 0 → IsProjector p.modulus (loop_value p) (colour label) (box (colour label)) →
     value p.modulus (loop_value p) (cable p (strands_of colour boxed box) (items ++ Loop label ∷ []))
     ≡ value p.modulus (loop_value p) (cable p (strands_of colour boxed box) items) * delta p (colour label) % p.modulus
 

@@ -11,7 +11,8 @@ use Rattle.root_quantum.specs.Parameters.{Parameters}
 use Rattle.pd_reader.specs.declared.item.Item.{Item}
 use Rattle.pd_reader.specs.declared.item.Item.TheVariants.{X, Loop}
 use Rattle.pd_reader.specs.Items.{item_labels, net_item_labels, HasItsSlots, HasItsEdges}
-use Rattle.pd_reader.specs.Diagrams.{labels, times, IsLabel, IsDiagram, IsNet}
+use Rattle.list_lemmas.specs.Times.{times_in}
+use Rattle.pd_reader.specs.Diagrams.{labels, IsLabel, IsDiagram, IsNet}
 use Rattle.planar_check.specs.Components.{strand_edges, component_least, least_labels, number_of}
 use Rattle.planar_check.proofs.Strands.{strands_inside}
 use Rattle.cables.specs.Strands.{Strands}
@@ -44,7 +45,7 @@ IsNet-as_net items h =
       few = (let l = length-as_net items in let f = h.few in omega (arith, l, f));
       sizes = sizes-as_net items h.sizes;
       in_range = subst (AllByRecursion IsLabel) (sym e) h.in_range;
-      twice = subst (λ ls. AllByRecursion (λ label. times label ls ≡ 2) ls) (sym e) h.twice;
+      twice = subst (λ ls. AllByRecursion (λ label. times_in ls label ≡ 2) ls) (sym e) h.twice;
     }
 
 -- no colour above 8

@@ -12,7 +12,7 @@ use Rattle.pd_reader.specs.declared.item.Item.{Item}
 use Rattle.pd_reader.specs.declared.item.Item.TheVariants.{Loop}
 use Rattle.pd_reader.specs.declared.item.NetItem.TheVariants as net_items
 use Rattle.pd_reader.specs.Items.{item_labels, net_item_labels, HasItsSlots}
-use Rattle.pd_reader.specs.Diagrams.{labels, times}
+use Rattle.pd_reader.specs.Diagrams.{labels}
 use Rattle.planar_check.specs.Components.{greatest, component_least, least_labels, number_of}
 use Rattle.planar_check.proofs.FewComponents.{number_first, number_last}
 use Rattle.planar_check.proofs.Strands.{member_at_most}
@@ -22,7 +22,7 @@ use Rattle.cables.specs.Strands.{Strands, strands_of, first_names, second_names}
 use Rattle.cables.specs.Cables.{cable, Fits, as_net, net_item}
 use Rattle.cables.specs.Nets.{projector_of}
 use Rattle.cables.proofs.AddedLoops.{added_loop}
-use Rattle.cables.proofs.LabelNames.{times-turned, zero_or_some}
+use Rattle.cables.proofs.LabelNames.{zero_or_some}
 use Rattle.list_lemmas.proofs.Times.{member_of_times}
 use Rattle.cables.proofs.NumberedStrands.{first_length}
 use Rattle.cables.proofs.PlainCables.{plain_cable}
@@ -112,11 +112,10 @@ module _ (items : List Item) (colours : List ℕ) (label n : ℕ) (sizes : AllBy
       same_number : (x y : ℕ) → component_least items x ≡ component_least items y → number_of items x ≡ number_of items y
       same_number x y e = ap (λ (least : ℕ). count_by (λ first. nat_le first least) (least_labels items)) e
 
-  no_label : times label (labels net_item_labels (as_net items)) ≡ 0
+  no_label : times_in (labels net_item_labels (as_net items)) label ≡ 0
   no_label =
       let ls = labels item_labels items in
-      ap (times label) (labels-as_net items)
-      ∙ times-turned label ls
+      ap (λ xs. times_in xs label) (labels-as_net items)
       ∙ ⊎_elim (λ e. e) (λ s. absurd (let k = s.1 in let b = member_at_most ls label (member_of_times label ls (omega (arith, k))) in omega (arith, b, past))) (zero_or_some (times_in ls label))
 
 as_net-added : (items : List Item) (label : ℕ) → as_net (items ++ Loop label ∷ []) ≡ as_net items ++ net_items.Loop label ∷ []

@@ -15,7 +15,7 @@ use Rattle.root_quantum.specs.Parameters.{Parameters}
 use Rattle.pd_reader.specs.declared.item.Item.{Item}
 use Rattle.pd_reader.specs.declared.item.Item.TheVariants.{X, Loop}
 use Rattle.pd_reader.specs.Items.{item_labels}
-use Rattle.pd_reader.specs.Diagrams.{labels, times, IsLabel}
+use Rattle.pd_reader.specs.Diagrams.{labels, IsLabel}
 use Rattle.arc_pairing.specs.Counts.{StandsTwice, IsLeastMiscount}
 use Rattle.root_quantum.specs.QuantumNumbers.{inverse_root}
 use Rattle.diagram_brackets.specs.Crossings.{crossing_node, joins_ab_cd, joins_ad_bc}
@@ -78,30 +78,24 @@ slots_of (Loop label ∷ items) = slots_of items
 abbrev loops_at : ℕ → List Item → ℕ
 loops_at x [] = 0
 loops_at x (X slots ∷ items) = loops_at x items
-loops_at x (Loop label ∷ items) = cond (label == x) 1 0 + loops_at x items
+loops_at x (Loop label ∷ items) = cond (x == label) 1 0 + loops_at x items
 
 names_are : (p : Parameters) (group : ℕ) (items : List Item) → names_of (crossing_nodes p group items) ≡ map strand_name (slots_of items)
 names_are p group [] = refl
 names_are p group (X slots ∷ items) = ap (λ ns. map strand_name slots ++ ns) (names_are p (group + 1) items) ∙ sym (map-append strand_name slots (slots_of items))
 names_are p group (Loop label ∷ items) = names_are p group items
 
-times-turned : (x : ℕ) (xs : List ℕ) → times x xs ≡ times_in xs x
-times-turned x [] = refl
-times-turned x (y ∷ xs) =
-    let ih = times-turned x xs in let e = sum_by-cons (λ z. cond (z == x) 1 0) y xs in let f = sum_by-cons (λ z. cond (x == z) 1 0) y xs in grind (arith, nat_tests, ih, e, f)
-
-times-labels : (x : ℕ) (items : List Item) → times x (labels item_labels items) ≡ times_in (slots_of items) x + 2 * loops_at x items
+times-labels : (x : ℕ) (items : List Item) → times_in (labels item_labels items) x ≡ times_in (slots_of items) x + 2 * loops_at x items
 times-labels x [] = refl
 times-labels x (X slots ∷ items) =
     let ih = times-labels x items in
-    let e = sum_by-append (λ z. cond (z == x) 1 0) slots (labels item_labels items) in
+    let e = sum_by-append (λ z. cond (x == z) 1 0) slots (labels item_labels items) in
     let f = sum_by-append (λ z. cond (x == z) 1 0) slots (slots_of items) in
-    let t = times-turned x slots in
-    omega (arith, ih, e, f, t)
+    omega (arith, ih, e, f)
 times-labels x (Loop label ∷ items) =
     let ih = times-labels x items in
-    let e = sum_by-cons (λ z. cond (z == x) 1 0) label (label ∷ labels item_labels items) in
-    let f = sum_by-cons (λ z. cond (z == x) 1 0) label (labels item_labels items) in
+    let e = sum_by-cons (λ z. cond (x == z) 1 0) label (label ∷ labels item_labels items) in
+    let f = sum_by-cons (λ z. cond (x == z) 1 0) label (labels item_labels items) in
     grind (arith, ih, e, f)
 
 times_in-named : (label : ℕ) (xs : List ℕ) → times_in (map strand_name xs) (strand_name label) ≡ times_in xs label
@@ -121,7 +115,7 @@ named_by x (y ∷ xs) m =
     (λ t. let r = named_by x xs t in (r.0, r.1, (let f = e r.0 in let g = r.2 in omega (arith, f, g))))
     (or_cases (x == strand_name y) _ m)
 
-at_label : (P : ℕ → Type 0) (label : ℕ) (ls : List ℕ) → AllByRecursion P ls → 1 ≤ times label ls → P label
+at_label : (P : ℕ → Type 0) (label : ℕ) (ls : List ℕ) → AllByRecursion P ls → 1 ≤ times_in ls label → P label
 at_label P label [] a h = absurd (omega (arith, h))
 at_label P label (y ∷ ls) a h =
     ⊎_elim
@@ -135,7 +129,7 @@ member_of_times x (y ∷ xs) h =
     let ih = member_of_times x xs in let e = sum_by-cons (λ z. cond (x == z) 1 0) y xs in grind (arith, nat_tests, ih, e, h)
 
 -- EACH NAME STANDS TWICE
-pub stands_twice : (p : Parameters) (items : List Item) → AllByRecursion (λ label. times label (labels item_labels items) ≡ 2) (labels item_labels items) →
+pub stands_twice : (p : Parameters) (items : List Item) → AllByRecursion (λ label. times_in (labels item_labels items) label ≡ 2) (labels item_labels items) →
     (x : ℕ) → StandsTwice (names_of (crossing_nodes p 1 items)) x
 stands_twice p items twice x =
     rw (names_are p 1 items)
@@ -143,7 +137,7 @@ stands_twice p items twice x =
     let r = named_by x (slots_of items) m in
     let count = times-labels r.0 items in
     let some = r.2 in
-    let two = at_label (λ label. times label (labels item_labels items) ≡ 2) r.0 (labels item_labels items) twice (omega (arith, count, some)) in
+    let two = at_label (λ label. times_in (labels item_labels items) label ≡ 2) r.0 (labels item_labels items) twice (omega (arith, count, some)) in
     ap (times_in (map strand_name (slots_of items))) r.1 ∙ times_in-named r.0 (slots_of items) ∙ omega (arith, count, some, two))
 
 inverse_below : (p : Parameters) → inverse_root p < p.modulus

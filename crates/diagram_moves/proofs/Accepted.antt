@@ -6,17 +6,20 @@ use Rattle.std.proofs.lemmas.Bool.Decides.{nat_tests}
 use Rattle.std.proofs.lemmas.List.Elements.{All-head, All-tail}
 use Rattle.std.proofs.lemmas.List.Sums.{AllPass-from_list_all}
 use Rattle.pd_reader.specs.declared.item.Item.{Item}
-use Rattle.diagram_moves.specs.Moves.{Answer, given, unless, finished, slot_pairs, slot_triples, four}
-use Rattle.diagram_moves.specs.Steps.{Refusal, Factor, Moved, TooMany}
+use Rattle.diagram_moves.specs.Moves.{given, unless, finished, slot_pairs, slot_triples, four}
+use Rattle.diagram_moves.specs.declared.factor.Factor.{Factor}
+use Rattle.diagram_moves.specs.declared.fault.MoveFault.{MoveFault}
+use Rattle.diagram_moves.specs.declared.fault.MoveFault.TheVariants.{TooMany}
+use Rattle.diagram_moves.specs.Steps.{Answer, Moved}
 
-err_ok : (refusal : Refusal) (moved : Moved) → ◌≡◌ {A = Answer} (Err refusal) (Ok moved) → ⊥
+err_ok : (refusal : MoveFault) (moved : Moved) → ◌≡◌ {A = Answer} (Err refusal) (Ok moved) → ⊥
 err_ok refusal moved h = cc
 
-pub given_Ok : {X : Type 0} (o : Option X) (refusal : Refusal) (next : X → Answer) (moved : Moved) → given o refusal next ≡ Ok moved → (x : X) × (o ≡ Some x) × (next x ≡ Ok moved)
+pub given_Ok : {X : Type 0} (o : Option X) (refusal : MoveFault) (next : X → Answer) (moved : Moved) → given o refusal next ≡ Ok moved → (x : X) × (o ≡ Some x) × (next x ≡ Ok moved)
 given_Ok None refusal next moved h = absurd (err_ok refusal moved h)
 given_Ok (Some x) refusal next moved h = (x, refl, h)
 
-pub unless_Ok : (test : Bool) (refusal : Refusal) (next : Answer) (moved : Moved) → unless test refusal next ≡ Ok moved → (test ≡ false) × (next ≡ Ok moved)
+pub unless_Ok : (test : Bool) (refusal : MoveFault) (next : Answer) (moved : Moved) → unless test refusal next ≡ Ok moved → (test ≡ false) × (next ≡ Ok moved)
 unless_Ok true refusal next moved h = absurd (err_ok refusal moved h)
 unless_Ok false refusal next moved h = (refl, h)
 

@@ -7,8 +7,10 @@ use Rattle.pd_reader.specs.declared.item.Item.TheVariants.{X, Loop}
 use Rattle.planar_check.specs.declared.sign.Sign.TheVariants as signs
 use Rattle.planar_check.specs.Places.{other_place}
 use Rattle.planar_check.specs.Planar.{face_of}
-use Rattle.diagram_moves.specs.Moves.{Answer, move}
-use Rattle.diagram_moves.specs.Steps.{R2, R2Undo, R3, Curl, CurlUndo, NoCrossing, SameEdge, LoopEdge, NotSameFace, NotBigon, NotTriangle, NotCurl}
+use Rattle.diagram_moves.specs.Moves.{move}
+use Rattle.diagram_moves.specs.Steps.{Answer}
+use Rattle.script_reader.specs.declared.step.Step.TheVariants.{R2, R2Undo, R3, Curl, CurlUndo}
+use Rattle.diagram_moves.specs.declared.fault.MoveFault.TheVariants.{NoCrossing, SameEdge, LoopEdge, NotSameFace, NotBigon, NotTriangle, NotCurl}
 
 abbrev x : ℕ → ℕ → ℕ → ℕ → Item
 x a b c d = X (a ∷ b ∷ c ∷ d ∷ [])

@@ -13,9 +13,11 @@ use Rattle.diagram_brackets.specs.Brackets.{loop_count}
 use Rattle.state_sums.specs.StateSums.{value}
 use Rattle.diagram_moves.proofs.Nodes.{nodes_of}
 use Rattle.planar_check.specs.Planar.{face_of}
-use Rattle.diagram_moves.specs.Moves.{Answer, move}
-use Rattle.diagram_moves.specs.Scripts.{played, by_move}
-use Rattle.diagram_moves.specs.Steps.{Moved, R2, R2Undo, R3, Curl, CurlUndo, BlowUp, NoEdge, NoCrossing, SameEdge, LoopEdge, NotSameFace, NotBigon, NotTriangle, NotCurl, TooMany}
+use Rattle.diagram_moves.specs.Moves.{move}
+use Rattle.diagram_moves.specs.Scripts.{played}
+use Rattle.script_reader.specs.declared.step.Step.TheVariants.{R2, R2Undo, R3, Curl, CurlUndo, BlowUp}
+use Rattle.diagram_moves.specs.declared.fault.MoveFault.TheVariants.{NoEdge, NoCrossing, SameEdge, LoopEdge, NotSameFace, NotBigon, NotTriangle, NotCurl, TooMany}
+use Rattle.diagram_moves.specs.Steps.{Answer, Moved}
 
 abbrev x : ℕ → ℕ → ℕ → ℕ → Item
 x a b c d = X (a ∷ b ∷ c ∷ d ∷ [])
@@ -141,5 +143,5 @@ slid_and_uncurled : played 1 with_triangle (R3 1 2 3 ∷ CurlUndo 2 ∷ []) ≡ 
 unfolding part part_count other_place face_count wanted_faces piece_count edge_count
 slid_and_uncurled = refl
 
-refused_at_1 : played 1 trefoil (R3 1 2 3 ∷ Curl 1 signs.Plus ∷ []) ≡ Err (1, by_move NotTriangle)
+refused_at_1 : played 1 trefoil (R3 1 2 3 ∷ Curl 1 signs.Plus ∷ []) ≡ Err (1, NotTriangle)
 refused_at_1 = refl

@@ -13,6 +13,7 @@ pub mod PlaceLemmas
 pub mod Pushing
 pub mod Curling
 pub mod Accepted
+pub mod Results
 pub mod PlainMoves
 mod Drawn
 mod Examples

@@ -8,19 +8,11 @@ use Rattle.std.proofs.lemmas.List.Sums.{sum_by-cons}
 use Rattle.pd_reader.specs.declared.item.Item.{Item}
 use Rattle.pd_reader.specs.declared.item.Item.TheVariants as item
 use Rattle.pd_reader.specs.Items.{item_labels, HasItsSlots}
-use Rattle.pd_reader.specs.Diagrams.{labels, times}
+use Rattle.pd_reader.specs.Diagrams.{labels}
 use Rattle.diagram_moves.specs.Rewriting.{crossing_labels}
 use Rattle.diagram_moves.specs.Laws.{IsPairedDiagram}
 use Rattle.list_lemmas.specs.Times.{times_in}
 use Rattle.list_lemmas.proofs.Times.{times_in-append, member_of_times, times_none}
-
-pub flip_times : (x : ℕ) (xs : List ℕ) → times x xs ≡ times_in xs x
-flip_times x [] = refl
-flip_times x (y ∷ xs) =
-    let ih = flip_times x xs in
-    let e = sum_by-cons (λ z. cond (x == z) 1 0) y xs in
-    let f = sum_by-cons (λ z. cond (z == x) 1 0) y xs in
-    grind (arith, nat_tests, ih, e, f)
 
 all_of : (P : ℕ → Type 0) (xs : List ℕ) → AllByRecursion P xs → (x : ℕ) → is_member ◌==◌ xs x ≡ true → P x
 all_of P [] h x m = absurd (grind (arith, m))
@@ -47,7 +39,7 @@ times_labels (item.Loop label ∷ rest) x =
 
 pub twice_in_all : (items : List Item) → IsPairedDiagram items → (x : ℕ) → 1 ≤ times_in (labels item_labels items) x → times_in (labels item_labels items) x ≡ 2
 twice_in_all items pd x h =
-    sym (flip_times x (labels item_labels items)) ∙ all_of (λ label. times label (labels item_labels items) ≡ 2) (labels item_labels items) pd.twice x (member_of_times x (labels item_labels items) h)
+    all_of (λ label. times_in (labels item_labels items) label ≡ 2) (labels item_labels items) pd.twice x (member_of_times x (labels item_labels items) h)
 
 -- A LABEL OF A CROSSING STANDS TWICE AT CROSSINGS
 pub paired : (items : List Item) → IsPairedDiagram items → (x : ℕ) → 1 ≤ times_in (crossing_labels items) x → times_in (crossing_labels items) x ≡ 2
@@ -60,7 +52,7 @@ paired items pd x h =
 pub loop_once : (items : List Item) → IsPairedDiagram items → (x : ℕ) → is_member ◌==◌ (labels item_labels items) x ≡ true → is_member ◌==◌ (crossing_labels items) x ≡ false → times_in (loop_labels items) x ≡ 1
 loop_once items pd x m out =
     let e = times_labels items x in
-    let t = sym (flip_times x (labels item_labels items)) ∙ all_of (λ label. times label (labels item_labels items) ≡ 2) (labels item_labels items) pd.twice x m in
+    let t = all_of (λ label. times_in (labels item_labels items) label ≡ 2) (labels item_labels items) pd.twice x m in
     let none : times_in (crossing_labels items) x ≡ 0 = times_none (crossing_labels items) x out in
     omega (arith, e, t, none)
 

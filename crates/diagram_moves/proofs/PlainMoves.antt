@@ -1,16 +1,14 @@
 -- A move multiplies the bracket by its factor: each kind of step by its own file, put together here.
-use Rattle.std.proofs.Common.{◌≡◌, ◌≢◌, ltb, ℕ, ◌+◌, ◌*◌, ◌^◌, ◌%◌, ◌<◌, Bool, true, false, cond, not, ◌&&◌, ◌||◌, ◌==◌, pos, negsuc, List, [], ◌∷◌, ◌++◌, Some, Ok, sym, ap, ◌∙◌, arith, ⊎_elim, subst, append-nil}
-use Rattle.std.specs.List.{AllByRecursion, find}
-use Rattle.std.specs.Set.{is_member}
+use Rattle.std.proofs.Common.{◌≡◌, ℕ, ◌+◌, ◌*◌, ◌^◌, ◌%◌, ◌<◌, true, false, cond, not, ◌&&◌, ◌||◌, ◌==◌, pos, negsuc, List, [], ◌∷◌, ◌++◌, Some, Ok, refl, sym, ap, ◌∙◌, arith, ⊎_elim, subst, append-nil}
+use Rattle.std.specs.List.{AllByRecursion}
 use Rattle.std.proofs.Math.Nat.{mod-mod}
-use Rattle.std.proofs.lemmas.Bool.{eqb-true, eq-eqb, cases_Bool, and_parts}
+use Rattle.std.proofs.lemmas.Bool.{eqb-true, cases_Bool, and_parts}
 use Rattle.std.proofs.lemmas.Bool.Decides.{nat_tests}
 use Rattle.std.proofs.lemmas.Nat.{mul-mod_first, mul-mod_second}
 use Rattle.graph_parts.specs.LeastNames.{least_label}
 use Rattle.pd_reader.specs.declared.item.Item.{Item}
 use Rattle.pd_reader.specs.declared.item.Item.TheVariants as item
-use Rattle.pd_reader.specs.Items.{item_labels, HasItsSlots}
-use Rattle.pd_reader.specs.Diagrams.{labels}
+use Rattle.pd_reader.specs.Items.{HasItsSlots}
 use Rattle.planar_check.specs.declared.sign.Sign.{Sign}
 use Rattle.planar_check.specs.declared.sign.Sign.TheVariants as signs
 use Rattle.root_quantum.specs.Parameters.{Parameters}
@@ -20,13 +18,15 @@ use Rattle.diagram_brackets.specs.Brackets.{loop_count, bracket}
 use Rattle.state_sums.specs.StateSums.{value}
 use Rattle.state_sums.proofs.Congruent.{pow_0, pow_1}
 use Rattle.diagram_moves.specs.Laws.{PlainMovesLaw, IsPairedDiagram}
-use Rattle.diagram_moves.specs.Moves.{push, pull, slide_over, add_curl, undo_curl, plain, is_loop, is_edge, same_face, second_place, pushed, is_bigon, bigon_classes, slot_pairs, slot_triples, four, is_triangle, triangle_rewritten, triangle_slots, is_curl, curl_classes, curl_of, curl_slots, curled_loop, closing, removed, finished, first_place_of}
-use Rattle.diagram_moves.specs.Rewriting.{slot, crossing_at, crossing_labels, fresh, at_places}
-use Rattle.diagram_moves.specs.Steps.{R2, R2Undo, R3, Curl, CurlUndo, BlowUp, Factor, Moved, NoEdge, NoCrossing, SameEdge, LoopEdge, NotSameFace, NotBigon, NotTriangle, NotCurl}
+use Rattle.diagram_moves.specs.Moves.{plain, second_place, pushed, bigon_classes, is_triangle, triangle_rewritten, triangle_slots, curl_classes, curl_of, curl_slots, curled_loop, closing, removed, finished}
+use Rattle.diagram_moves.specs.Rewriting.{slot, crossing_at, fresh, at_places}
+use Rattle.script_reader.specs.declared.step.Step.TheVariants.{R2, R2Undo, R3, Curl, CurlUndo, BlowUp}
+use Rattle.diagram_moves.specs.declared.factor.Factor.{Factor}
+use Rattle.diagram_moves.specs.Steps.{Moved}
 use Rattle.diagram_moves.specs.Values.{factor_value}
-use Rattle.diagram_moves.proofs.Accepted.{given_Ok, unless_Ok, finished_Ok, passing_test, small_pair, small_triple, low_pair, low_triple, small_pairs, small_triples, small_slots}
-use Rattle.std.proofs.lemmas.Bool.{ltb-true}
+use Rattle.diagram_moves.proofs.Accepted.{finished_Ok}
 use Rattle.diagram_moves.proofs.BracketValues.{bracket_value}
+use Rattle.diagram_moves.proofs.Results.{Reached, by_push, by_pull, by_slide, by_curl, by_curl_on_loop, by_uncurl, reached}
 use Rattle.diagram_moves.proofs.Curling.{is_plus, curled_value, sizes-curled, curled_loop_value, sizes-curled_loop, loop_slots_four, blown_value}
 use Rattle.diagram_moves.proofs.Nodes.{nodes_of, nodes_of-append, IsNode-nodes}
 use Rattle.piece_laws.proofs.ParameterNumbers.{skein_numbers}
@@ -36,7 +36,6 @@ use Rattle.diagram_moves.proofs.Pushing.{pushed_value, sizes-pushed}
 use Rattle.diagram_moves.proofs.Rewritten.{rewritten_same}
 use Rattle.diagram_moves.proofs.Triangles.{triangle_value, sizes-triangle}
 use Rattle.diagram_moves.proofs.Undone.{sizes-closing, loop_count-append}
-use Rattle.planar_check.specs.Places.{place_labels}
 
 -- ---- factors
 bracket_small : (p : Parameters) (items : List Item) → bracket p items % p.modulus ≡ bracket p items
@@ -95,74 +94,28 @@ module _ (p : Parameters) (items : List Item) (pd : IsPairedDiagram items) where
   abbrev b : ℕ
   b = inverse_root p
 
-  abbrev Holds : Moved → Type 0
-  Holds moved = bracket p moved.items ≡ factor_value p moved.factor * bracket p items % m
+  abbrev Holds : Factor → List Item → Type 0
+  Holds factor after = bracket p after ≡ factor_value p factor * bracket p items % m
+
+  abbrev kept_value : List Item → ℕ
+  kept_value its = value m d record { nodes = nodes_of a b its; free_loops = loop_count its }
 
   -- a move without a factor
-  kept_plain : (after : List Item) (moved : Moved) → AllByRecursion HasItsSlots after → finished plain after ≡ Ok moved →
-      value m d record { nodes = nodes_of a b after; free_loops = loop_count after } ≡ value m d record { nodes = nodes_of a b items; free_loops = loop_count items } → Holds moved
-  kept_plain after moved sizes done same =
-      subst Holds (sym (finished_Ok plain after moved done))
-      (bracket_value p after sizes ∙ same ∙ sym (bracket_value p items pd.sizes) ∙ sym (plain_factor p items))
+  kept_plain : (after : List Item) → AllByRecursion HasItsSlots after → kept_value after ≡ kept_value items → Holds plain after
+  kept_plain after sizes same = bracket_value p after sizes ∙ same ∙ sym (bracket_value p items pd.sizes) ∙ sym (plain_factor p items)
 
   -- a curl that comes
-  curl_made : (sign : Sign) (after : List Item) (moved : Moved) → AllByRecursion HasItsSlots after → finished (curl_of sign) after ≡ Ok moved →
-      value m d record { nodes = nodes_of a b after; free_loops = loop_count after } ≡ sign_twist p sign * value m d record { nodes = nodes_of a b items; free_loops = loop_count items } % m → Holds moved
-  curl_made sign after moved sizes done same =
-      subst Holds (sym (finished_Ok (curl_of sign) after moved done))
-      (bracket_value p after sizes ∙ same ∙ sym (ap (λ n. sign_twist p sign * n % m) (bracket_value p items pd.sizes)) ∙ sym (ap (λ n. n * bracket p items % m) (sign_factor p sign)))
+  curl_made : (sign : Sign) (after : List Item) → AllByRecursion HasItsSlots after → kept_value after ≡ sign_twist p sign * kept_value items % m → Holds (curl_of sign) after
+  curl_made sign after sizes same =
+      bracket_value p after sizes ∙ same ∙ sym (ap (λ n. sign_twist p sign * n % m) (bracket_value p items pd.sizes)) ∙ sym (ap (λ n. n * bracket p items % m) (sign_factor p sign))
 
   -- a curl that goes
-  curl_gone : (sign : Sign) (after : List Item) (moved : Moved) → AllByRecursion HasItsSlots after → finished (curl_of (opposite sign)) after ≡ Ok moved →
-      value m d record { nodes = nodes_of a b items; free_loops = loop_count items } ≡ sign_twist p sign * value m d record { nodes = nodes_of a b after; free_loops = loop_count after } % m → Holds moved
-  curl_gone sign after moved sizes done same =
+  curl_gone : (sign : Sign) (after : List Item) → AllByRecursion HasItsSlots after → kept_value items ≡ sign_twist p sign * kept_value after % m → Holds (curl_of (opposite sign)) after
+  curl_gone sign after sizes same =
       let old = bracket_value p items pd.sizes ∙ same ∙ sym (ap (λ n. sign_twist p sign * n % m) (bracket_value p after sizes)) in
-      subst Holds (sym (finished_Ok (curl_of (opposite sign)) after moved done))
-      (sym (bracket_small p after)
+      sym (bracket_small p after)
       ∙ divided m (sign_twist p sign) (sign_twist p (opposite sign)) (bracket p items) (bracket p after) (twists_cancel p sign) old
-      ∙ sym (ap (λ n. n * bracket p items % m) (sign_factor p (opposite sign))))
-
-  -- ---- R2
-  on_crossings : (e : ℕ) → is_loop items e ≡ false → is_member ◌==◌ (crossing_labels items) e ≡ true
-  on_crossings e h = grind (arith, h)
-
-  r2_holds : (e f : ℕ) (moved : Moved) → push items e f ≡ Ok moved → Holds moved
-  r2_holds e f moved h =
-      let h1 = unless_Ok (not (is_edge items e)) (NoEdge e) _ moved h in
-      let h2 = unless_Ok (not (is_edge items f)) (NoEdge f) _ moved h1.1 in
-      let h3 = unless_Ok (e == f) SameEdge _ moved h2.1 in
-      let h4 = unless_Ok (is_loop items e) (LoopEdge e) _ moved h3.1 in
-      let h5 = unless_Ok (is_loop items f) (LoopEdge f) _ moved h4.1 in
-      let e_first = first_place_of (place_labels items) e in
-      let f_first = first_place_of (place_labels items) f in
-      let meets : ℕ → Bool = λ q. same_face items q f_first || same_face items q (second_place items f) in
-      let h6 = unless_Ok (not (meets e_first || meets (second_place items e))) NotSameFace _ moved h5.1 in
-      let first_of_e = meets e_first in
-      let q = cond first_of_e e_first (second_place items e) in
-      let first_of_f = same_face items q f_first in
-      let apart : e ≢ f = λ same. (let k = eq-eqb e f same in let n = h3.0 in grind (arith, k, n)) in
-      let has_e = on_crossings e h4.0 in
-      let has_f = on_crossings f h5.0 in
-      kept_plain (pushed items e f first_of_e first_of_f) moved (sizes-pushed items pd e f has_e has_f apart first_of_e first_of_f) h6.1
-      (pushed_value items pd e f has_e has_f apart first_of_e first_of_f m d a b (skein_numbers p).skein)
-
-  -- ---- R2Undo
-  r2_undo_holds : (c g : ℕ) (moved : Moved) → pull items c g ≡ Ok moved → Holds moved
-  r2_undo_holds c g moved h =
-      let h1 = given_Ok (crossing_at items c) (NoCrossing c) _ moved h in
-      let here = h1.0 in
-      let h2 = given_Ok (crossing_at items g) (NoCrossing g) _ moved h1.2 in
-      let there = h2.0 in
-      let h3 = unless_Ok (c == g) NotBigon _ moved h2.2 in
-      let h4 = given_Ok (find (is_bigon here there) slot_pairs) NotBigon _ moved h3.1 in
-      let at = h4.0 in
-      let test = passing_test (is_bigon here there) small_pair slot_pairs at h4.1 small_pairs in
-      let low = low_pair at test.1 in
-      let apart : (g == c) ≡ false = (let n = h3.0 in grind (arith, nat_tests, n)) in
-      let label : ℕ → ℕ = least_label (bigon_classes here there at) in
-      kept_plain (closing label (slot here at.0) (slot there (at.1 + 1)) (removed (g ∷ c ∷ []) label items)) moved
-      (sizes-closing (g ∷ c ∷ []) label (slot here at.0) (slot there (at.1 + 1)) items pd.sizes) h4.2
-      (sym (pulled_value m d a b (skein_numbers p).skein items pd c here h1.1 g there h2.1 apart at.0 at.1 low.0 low.1 test.0))
+      ∙ sym (ap (λ n. n * bracket p items % m) (sign_factor p (opposite sign)))
 
   -- ---- R3
   all_apart : (c g f : ℕ) → (c == g || (g == f || c == f)) ≡ false →
@@ -225,64 +178,28 @@ module _ (p : Parameters) (items : List Item) (pd : IsPairedDiagram items) where
       (cases_Bool (u % 2 == 0)))
       (cases_Bool (k % 2 == 0))
 
-  r3_holds : (c g f : ℕ) (moved : Moved) → slide_over items c g f ≡ Ok moved → Holds moved
-  r3_holds c g f moved h =
-      let h1 = given_Ok (crossing_at items c) (NoCrossing c) _ moved h in
-      let h2 = given_Ok (crossing_at items g) (NoCrossing g) _ moved h1.2 in
-      let h3 = given_Ok (crossing_at items f) (NoCrossing f) _ moved h2.2 in
-      let here = h1.0 in let there = h2.0 in let beyond = h3.0 in
-      let h4 = unless_Ok (c == g || (g == f || c == f)) NotTriangle _ moved h3.2 in
-      let either : ℕ × (ℕ × ℕ) → Bool = λ at. is_triangle here there beyond at || is_triangle here beyond there at in
-      let h5 = given_Ok (find either slot_triples) NotTriangle _ moved h4.1 in
-      let at = h5.0 in
-      let test = passing_test either small_triple slot_triples at h5.1 small_triples in
-      let low = low_triple at test.1 in
-      let s = at.0 in let t = at.1.0 in let u = at.1.1 in
-      let one = triangle_rewritten items c g f here there beyond (s + 3) t u in
-      let other = triangle_rewritten items c f g here beyond there (s + 3) t u in
-      let distinct = h4.0 in
-      ⊎_elim
-      (λ yes.
-      kept_plain one moved (sizes-triangle items c g f here there beyond (s + 3) t u pd.sizes)
-      (sym (ap (λ z. finished plain (cond z one other)) yes) ∙ h5.2)
-      (sym (slid c g f here there beyond s t u h1.1 h2.1 h3.1 distinct low.0 low.1 low.2 yes)))
-      (λ no.
-      let turned : (c == f || (f == g || c == g)) ≡ false = grind (arith, nat_tests, distinct) in
-      let yes : is_triangle here beyond there at ≡ true = (let e = test.0 in grind (arith, e, no)) in
-      kept_plain other moved (sizes-triangle items c f g here beyond there (s + 3) t u pd.sizes)
-      (sym (ap (λ z. finished plain (cond z one other)) no) ∙ h5.2)
-      (sym (slid c f g here beyond there s t u h1.1 h3.1 h2.1 turned low.0 low.1 low.2 yes)))
-      (cases_Bool (is_triangle here there beyond at))
-
-  -- ---- curls
-  curl_holds : (e : ℕ) (sign : Sign) (moved : Moved) → add_curl items e sign ≡ Ok moved → Holds moved
-  curl_holds e sign moved h =
-      let n = fresh items in
-      let h1 = unless_Ok (not (is_edge items e)) (NoEdge e) _ moved h in
-      let has : is_member ◌==◌ (labels item_labels items) e ≡ true = (let k = h1.0 in grind (arith, k)) in
-      let on_loop = curled_loop e (curl_slots e e n sign) items in
-      let on_edge = at_places (λ q label. cond (q == second_place items e) (n + 1) label) 0 items ++ item.X (curl_slots e (n + 1) n sign) ∷ [] in
-      ⊎_elim
-      (λ yes.
-      let out : is_member ◌==◌ (crossing_labels items) e ≡ false = grind (arith, yes) in
-      curl_made sign on_loop moved (sizes-curled_loop e (curl_slots e e n sign) (loop_slots_four items pd e has out sign) items pd.sizes)
-      (sym (ap (λ z. finished (curl_of sign) (cond z on_loop on_edge)) yes) ∙ h1.1)
-      (curled_loop_value items pd e has out sign m d a b (skein_numbers p).skein (sign_twist p sign) (curl_condition p sign)))
-      (λ no.
-      let there = on_crossings e no in
-      curl_made sign on_edge moved (sizes-curled items pd e there sign)
-      (sym (ap (λ z. finished (curl_of sign) (cond z on_loop on_edge)) no) ∙ h1.1)
-      (curled_value items pd e there sign m d a b (skein_numbers p).skein (sign_twist p sign) (curl_condition p sign)))
-      (cases_Bool (is_loop items e))
-
-  curl_undo_holds : (c : ℕ) (moved : Moved) → undo_curl items c ≡ Ok moved → Holds moved
-  curl_undo_holds c moved h =
-      let h1 = given_Ok (crossing_at items c) (NoCrossing c) _ moved h in
-      let here = h1.0 in
-      let h2 = given_Ok (find (is_curl here) four) NotCurl _ moved h1.2 in
-      let s = h2.0 in
-      let test = passing_test (is_curl here) (λ i. ltb i 4) four s h2.1 small_slots in
-      let low = ltb-true s 4 test.1 in
+  -- ---- each result, but BlowUp's
+  holds : (after : List Item) {factor : Factor} → Reached items factor after → Holds factor after
+  holds after (by_push e f first_of_e first_of_f has_e has_f apart) =
+      kept_plain (pushed items e f first_of_e first_of_f) (sizes-pushed items pd e f has_e has_f apart first_of_e first_of_f)
+      (pushed_value items pd e f has_e has_f apart first_of_e first_of_f m d a b (skein_numbers p).skein)
+  holds after (by_pull c g here there s t at_c at_g apart low_s low_t test) =
+      let label : ℕ → ℕ = least_label (bigon_classes here there (s, t)) in
+      kept_plain (closing label (slot here s) (slot there (t + 1)) (removed (g ∷ c ∷ []) label items))
+      (sizes-closing (g ∷ c ∷ []) label (slot here s) (slot there (t + 1)) items pd.sizes)
+      (sym (pulled_value m d a b (skein_numbers p).skein items pd c here at_c g there at_g apart s t low_s low_t test))
+  holds after (by_slide c g f here there beyond s t u at_c at_g at_f distinct low_s low_t low_u test) =
+      kept_plain (triangle_rewritten items c g f here there beyond (s + 3) t u) (sizes-triangle items c g f here there beyond (s + 3) t u pd.sizes)
+      (sym (slid c g f here there beyond s t u at_c at_g at_f distinct low_s low_t low_u test))
+  holds after (by_curl e sign has) =
+      curl_made sign (at_places (λ q label. cond (q == second_place items e) (fresh items + 1) label) 0 items ++ item.X (curl_slots e (fresh items + 1) (fresh items) sign) ∷ [])
+      (sizes-curled items pd e has sign)
+      (curled_value items pd e has sign m d a b (skein_numbers p).skein (sign_twist p sign) (curl_condition p sign))
+  holds after (by_curl_on_loop e sign has out) =
+      curl_made sign (curled_loop e (curl_slots e e (fresh items) sign) items)
+      (sizes-curled_loop e (curl_slots e e (fresh items) sign) (loop_slots_four items pd e has out sign) items pd.sizes)
+      (curled_loop_value items pd e has out sign m d a b (skein_numbers p).skein (sign_twist p sign) (curl_condition p sign))
+  holds after (by_uncurl c here s at_c low test) =
       let label : ℕ → ℕ = least_label (curl_classes here s) in
       let after = closing label (slot here s) (slot here s) (removed (c ∷ []) label items) in
       let sizes = sizes-closing (c ∷ []) label (slot here s) (slot here s) items pd.sizes in
@@ -290,15 +207,17 @@ module _ (p : Parameters) (items : List Item) (pd : IsPairedDiagram items) where
       let Cube : ℕ → ℕ → Type 0 = λ w u. (w + u * u * u) % m ≡ 0 % m in
       ⊎_elim
       (λ even.
-      curl_gone signs.Plus after moved sizes (sym (ap (λ z. finished (curl_of (cond z signs.Minus signs.Plus)) after) even) ∙ h2.2)
-      (uncurled_value m d a b numbers items pd c here h1.1 s low test.0 (twist p 1 (pos 1)) (subst (Cube (twist p 1 (pos 1))) (sym (ap (λ z. cond z a b) even)) (skein_numbers p).positive_curl)))
+      subst (λ (sign : Sign). Holds (curl_of sign) after) (sym (ap (λ z. cond z signs.Minus signs.Plus) even))
+      (curl_gone signs.Plus after sizes
+      (uncurled_value m d a b numbers items pd c here at_c s low test (twist p 1 (pos 1)) (subst (Cube (twist p 1 (pos 1))) (sym (ap (λ z. cond z a b) even)) (skein_numbers p).positive_curl))))
       (λ odd.
-      curl_gone signs.Minus after moved sizes (sym (ap (λ z. finished (curl_of (cond z signs.Minus signs.Plus)) after) odd) ∙ h2.2)
-      (uncurled_value m d a b numbers items pd c here h1.1 s low test.0 (twist p 1 (negsuc 0)) (subst (Cube (twist p 1 (negsuc 0))) (sym (ap (λ z. cond z a b) odd)) (skein_numbers p).negative_curl)))
+      subst (λ (sign : Sign). Holds (curl_of sign) after) (sym (ap (λ z. cond z signs.Minus signs.Plus) odd))
+      (curl_gone signs.Minus after sizes
+      (uncurled_value m d a b numbers items pd c here at_c s low test (twist p 1 (negsuc 0)) (subst (Cube (twist p 1 (negsuc 0))) (sym (ap (λ z. cond z a b) odd)) (skein_numbers p).negative_curl))))
       (cases_Bool (s % 2 == 0))
 
   -- ---- BlowUp
-  blow_up_holds : (moved : Moved) → finished record { curl = pos 0; circle = 1 } (items ++ item.Loop (fresh items) ∷ []) ≡ Ok moved → Holds moved
+  blow_up_holds : (moved : Moved) → finished record { curl = pos 0; circle = 1 } (items ++ item.Loop (fresh items) ∷ []) ≡ Ok moved → Holds moved.factor moved.items
   blow_up_holds moved h =
       let after = items ++ item.Loop (fresh items) ∷ [] in
       let one : Factor = record { curl = pos 0; circle = 1 } in
@@ -306,7 +225,7 @@ module _ (p : Parameters) (items : List Item) (pd : IsPairedDiagram items) where
       let none = twist_none_law p 1 in
       let first = pow_1 d in
       let factor : factor_value p one ≡ d = rw (none, first) (omega arith) in
-      subst Holds (sym (finished_Ok one after moved h))
+      subst (λ (w : Moved). Holds w.factor w.items) (sym (finished_Ok one after moved h))
       (bracket_value p after sizes
       ∙ ap (λ ns. value m d record { nodes = ns; free_loops = loop_count after }) (nodes_of-append a b items (item.Loop (fresh items) ∷ []) ∙ append-nil (nodes_of a b items))
       ∙ ap (λ n. value m d record { nodes = nodes_of a b items; free_loops = n }) (loop_count-append items (item.Loop (fresh items) ∷ []))
@@ -316,9 +235,9 @@ module _ (p : Parameters) (items : List Item) (pd : IsPairedDiagram items) where
 
 -- A MOVE MULTIPLIES THE BRACKET BY ITS FACTOR
 pub plain_moves : PlainMovesLaw
-plain_moves p items (R2 e f) moved pd h = r2_holds p items pd e f moved h
-plain_moves p items (R2Undo c d) moved pd h = r2_undo_holds p items pd c d moved h
-plain_moves p items (R3 c d f) moved pd h = r3_holds p items pd c d f moved h
-plain_moves p items (Curl e sign) moved pd h = curl_holds p items pd e sign moved h
-plain_moves p items (CurlUndo c) moved pd h = curl_undo_holds p items pd c moved h
+plain_moves p items (R2 e f) moved pd h = holds p items pd moved.items (reached items (R2 e f) moved refl h).0
+plain_moves p items (R2Undo c d) moved pd h = holds p items pd moved.items (reached items (R2Undo c d) moved refl h).0
+plain_moves p items (R3 c d f) moved pd h = holds p items pd moved.items (reached items (R3 c d f) moved refl h).0
+plain_moves p items (Curl e sign) moved pd h = holds p items pd moved.items (reached items (Curl e sign) moved refl h).0
+plain_moves p items (CurlUndo c) moved pd h = holds p items pd moved.items (reached items (CurlUndo c) moved refl h).0
 plain_moves p items (BlowUp sign) moved pd h = blow_up_holds p items pd moved h

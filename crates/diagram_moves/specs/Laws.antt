@@ -5,16 +5,18 @@ use Rattle.std.specs.List.{AllByRecursion}
 use Rattle.root_quantum.specs.Parameters.{Parameters}
 use Rattle.pd_reader.specs.declared.item.Item.{Item}
 use Rattle.pd_reader.specs.Items.{item_labels, HasItsSlots}
-use Rattle.pd_reader.specs.Diagrams.{labels, times}
+use Rattle.list_lemmas.specs.Times.{times_in}
+use Rattle.pd_reader.specs.Diagrams.{labels}
 use Rattle.diagram_brackets.specs.Brackets.{bracket}
 use Rattle.diagram_moves.specs.Moves.{move}
-use Rattle.diagram_moves.specs.Steps.{Step, Moved}
+use Rattle.script_reader.specs.declared.step.Step.{Step}
+use Rattle.diagram_moves.specs.Steps.{Moved}
 use Rattle.diagram_moves.specs.Values.{factor_value}
 
 -- each crossing has four slots, and each label stands twice
 pub record IsPairedDiagram (items : List Item) : Type 0 where
   pub sizes : AllByRecursion HasItsSlots items
-  pub twice : AllByRecursion (λ label. times label (labels item_labels items) ≡ 2) (labels item_labels items)
+  pub twice : AllByRecursion (λ label. times_in (labels item_labels items) label ≡ 2) (labels item_labels items)
 
 -- A move multiplies the bracket by the value of its factor.
 abbrev pub PlainMovesLaw : Type 0

@@ -11,7 +11,7 @@
 --
 -- A face of exactly two places, one at c and one at d, is a label at slot s of c and slot t of d, while another stands at the
 -- slots s-1 and t+1; for each label stands twice. So it is with three.
-use Rattle.std.specs.Prelude.{ℕ, ◌+◌, ◌-◌, ◌%◌, ◌==◌, ◌&&◌, ◌||◌, not, nat_lt, Bool, true, false, if◌then◌else◌, min, max, List, [], ◌∷◌, ◌++◌, length, map, pos, negsuc, Option, Some, None, unwrap_or, Result, Ok, Err}
+use Rattle.std.specs.Prelude.{ℕ, ◌+◌, ◌-◌, ◌%◌, ◌==◌, ◌&&◌, ◌||◌, not, nat_lt, Bool, true, false, if◌then◌else◌, min, max, List, [], ◌∷◌, ◌++◌, length, map, pos, negsuc, Option, Some, None, unwrap_or, Ok, Err}
 use Rattle.std.specs.List.{filter, find, flat_map}
 use Rattle.std.specs.Set.{is_member}
 use Rattle.graph_parts.specs.LeastNames.{least_label}
@@ -24,10 +24,12 @@ use Rattle.planar_check.specs.declared.sign.Sign.TheVariants as signs
 use Rattle.planar_check.specs.Places.{place_labels, crossings_of, first_place, other_place}
 use Rattle.planar_check.specs.Planar.{face_of}
 use Rattle.diagram_moves.specs.Rewriting.{slot, around, crossing_at, rewritten, at_places, crossing_labels, fresh}
-use Rattle.diagram_moves.specs.Steps.{Step, R2, R2Undo, R3, Curl, CurlUndo, BlowUp, Refusal, NoEdge, NoCrossing, SameEdge, LoopEdge, NotSameFace, NotBigon, NotTriangle, NotCurl, TooMany, Factor, Moved}
-
-abbrev pub Answer : Type 0
-Answer = Result Moved Refusal
+use Rattle.script_reader.specs.declared.step.Step.{Step}
+use Rattle.script_reader.specs.declared.step.Step.TheVariants.{R2, R2Undo, R3, Curl, CurlUndo, BlowUp}
+use Rattle.diagram_moves.specs.declared.factor.Factor.{Factor}
+use Rattle.diagram_moves.specs.declared.fault.MoveFault.{MoveFault}
+use Rattle.diagram_moves.specs.declared.fault.MoveFault.TheVariants.{NoEdge, NoCrossing, SameEdge, LoopEdge, NotSameFace, NotBigon, NotTriangle, NotCurl, TooMany}
+use Rattle.diagram_moves.specs.Steps.{Answer}
 
 -- ---- what moves share
 -- more than 256 items are refused last
@@ -38,12 +40,12 @@ abbrev pub plain : Factor
 plain = record { curl = pos 0; circle = 0 }
 
 -- with what there is, or a refusal
-abbrev pub given : {X : Type 0} → Option X → Refusal → (X → Answer) → Answer
+abbrev pub given : {X : Type 0} → Option X → MoveFault → (X → Answer) → Answer
 given None refusal next = Err refusal
 given (Some x) refusal next = next x
 
 -- where a test holds, or a refusal
-abbrev pub unless : Bool → Refusal → Answer → Answer
+abbrev pub unless : Bool → MoveFault → Answer → Answer
 unless true refusal next = Err refusal
 unless false refusal next = next
 

@@ -3,20 +3,24 @@ use Rattle.std.proofs.Common.{◌≡◌, ℕ, zero, suc, ◌+◌, ◌<◌, ◌�
 use Rattle.std.proofs.lemmas.List.{take-map, take_more}
 use Rattle.state_sums.specs.Networks.{Node, Network, IsNetwork}
 use Rattle.arc_gluing.specs.Laws.{AreFew}
-use Rattle.frontier_laws.specs.Orders.{View, IsPartOrder, IsChosen, taken, node_at, open_with, view_after}
+use Rattle.frontier_laws.specs.Orders.{View, IsPartOrder, taken, node_at, open_with, view_after}
 use Rattle.frontier_laws.specs.Turns.{IsWithinAt, IsWithin, IsLimited, open_count, pairing_count}
-use Rattle.frontier_laws.specs.Laws.{IsFixed, IsOneLimit}
+use Rattle.frontier_laws.specs.Laws.{IsFixed, IsAnswered, IsOneLimit}
 use Rattle.frontier_laws.proofs.OpenNames.{open_count-after}
+use Rattle.frontier_laws.proofs.PartOrders.{IsView-front, some_left}
 use Rattle.frontier_laws.proofs.OrdersTaken.{taken_more, taken_length, AreFew-order}
 
 -- ---- one order
-module _ (answers : View → ℕ → Type 0) (network : Network) (order other : List ℕ) (fixed : IsFixed answers) (h : IsChosen answers network order) (k : IsChosen answers network other) where
+module _ (answers : View → ℕ → Type 0) (network : Network) (order other : List ℕ) (fixed : IsFixed answers) (h : IsAnswered answers network order) (k : IsAnswered answers network other) where
   -- As far as both go they are one.
   pub same_front : (n : ℕ) → n ≤ length order → n ≤ length other → take n order ≡ take n other
   same_front zero l m = refl
   same_front (suc n) l m =
       let before = same_front n (omega (arith, l)) (omega (arith, m)) in
-      let one = fixed (view_after network (take n order)) (slice_index order n) (slice_index other n) (h n (omega (arith, l))) (subst (λ front. answers (view_after network front) (slice_index other n)) (sym before) (k n (omega (arith, m)))) in
+      let answer = subst (λ front. answers (view_after network front) (slice_index other n)) (sym before) (k.chosen n (omega (arith, m))) in
+      let one =
+      fixed (view_after network (take n order)) (slice_index order n) (slice_index other n) (IsView-front network order h.part n) (some_left network order h.part n (omega (arith, l)))
+      (h.chosen n (omega (arith, l))) answer in
       let e : suc n ≡ n + 1 = omega arith in
       ap (λ n. take n order) e
       ∙ take_more order n 0 (omega (arith, l))
@@ -43,7 +47,7 @@ front_narrow nodes n small limited front =
 taken_take : (nodes : List Node) (order : List ℕ) (n : ℕ) → taken nodes (take n order) ≡ take n (taken nodes order)
 taken_take nodes order n = sym (take-map (node_at nodes) n order)
 
-module _ (answers : View → ℕ → Type 0) (network : Network) (order other : List ℕ) (fixed : IsFixed answers) (h : IsChosen answers network order) (k : IsChosen answers network other) where
+module _ (answers : View → ℕ → Type 0) (network : Network) (order other : List ℕ) (fixed : IsFixed answers) (h : IsAnswered answers network order) (k : IsAnswered answers network other) where
   -- An order that ends with a limit doesn't begin one that goes on to another.
   not_shorter : IsLimited (taken network.nodes order) → IsLimited (taken network.nodes other) → length other < length order → ⊥
   not_shorter limited limited_too small =
@@ -66,7 +70,7 @@ module _ (answers : View → ℕ → Type 0) (network : Network) (order other : 
   none_longer limited within = let long = not_as_long limited within in grind (arith, long)
 
 -- ONE LIMIT AT THE MOST
-pub one_limit : (answers : View → ℕ → Type 0) (network : Network) (order other : List ℕ) → IsFixed answers → IsChosen answers network order → IsChosen answers network other → IsOneLimit network order other
+pub one_limit : (answers : View → ℕ → Type 0) (network : Network) (order other : List ℕ) → IsFixed answers → IsAnswered answers network order → IsAnswered answers network other → IsOneLimit network order other
 one_limit answers network order other fixed h k = record {
   same = λ limited limited_too.
       let a = not_shorter answers network order other fixed h k limited limited_too in

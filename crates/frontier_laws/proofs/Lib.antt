@@ -11,10 +11,14 @@ pub mod TableEnds
 pub mod TableLimits
 pub mod TurnSteps
 pub mod FirstLeast
+pub mod Ranks
 pub mod OpenNamesSorted
 pub mod OpenNames
 pub mod OrdersPlaces
 pub mod OrdersTaken
 pub mod ChosenOrders
+pub mod PartOrders
+pub mod FunctionOrders
 pub mod OpenWith
+pub mod Rises
 pub mod FixedOrders

@@ -1,19 +1,15 @@
 -- Sorting names, and increasing lists: how often a number stands in them tells them.
-use Rattle.std.proofs.Common.{◌≡◌, ℕ, suc, ◌+◌, ◌<◌, ◌≤◌, ◌==◌, nat_lt, Bool, true, false, cond, ⊎_elim, List, [], ◌∷◌, length, get_or, refl, sym, ap, subst, ◌∙◌, arith}
-use Rattle.std.specs.List.{All, AllPairs, filter, remove}
-use Rattle.std.specs.List.Sorted.{IsNonDecreasing, IsStrictlyIncreasing, IsPermutation}
+use Rattle.std.proofs.Common.{◌≡◌, ℕ, suc, ◌+◌, ◌≤◌, ◌==◌, nat_lt, cond, ⊎_elim, List, [], ◌∷◌, length, get_or, refl, sym, ap, subst, ◌∙◌, arith}
+use Rattle.std.specs.List.{All, AllPairs}
+use Rattle.std.specs.List.Sorted.{IsNonDecreasing}
 use Rattle.std.proofs.lemmas.Bool.{cases_Bool, cases_eq}
 use Rattle.std.proofs.lemmas.Bool.Decides.{nat_tests}
-use Rattle.std.proofs.lemmas.List.{get_or_default}
 use Rattle.std.proofs.lemmas.List.Elements.{All-cons, All-weaker}
-use Rattle.std.proofs.lemmas.List.Kept.{AllPairs-cons, AllPairs-from_increasing}
-use Rattle.std.proofs.lemmas.List.Sorted.{IsPermutation-cons, IsPermutation-refl, IsPermutation-remove, IsPermutation-trans, sum_by-IsPermutation}
-use Rattle.std.proofs.lemmas.List.Sums.{sum_by-cons}
+use Rattle.std.proofs.lemmas.List.Kept.{AllPairs-cons}
 use Rattle.list_lemmas.specs.Times.{times_in}
-use Rattle.list_lemmas.proofs.Times.{member_of_times, times_in-cons}
-use Rattle.list_lemmas.proofs.Items.{member_at}
+use Rattle.list_lemmas.proofs.Times.{times_in-cons}
 use Rattle.frontier_laws.specs.Orders.{placed, increasing}
-use Rattle.list_lemmas.proofs.Increasing.{pairs_head, pairs_tail, one_increasing}
+use Rattle.list_lemmas.proofs.Increasing.{pairs_head, pairs_tail}
 
 -- ---- how often a number stands in a list
 times_placed : (name : ℕ) (names : List ℕ) (x : ℕ) → times_in (placed name names) x ≡ cond (x == name) 1 0 + times_in names x

@@ -1,5 +1,5 @@
 -- How many names are open with one more node, counted with no search for each two names.
-use Rattle.std.proofs.Common.{◌≡◌, ℕ, ◌+◌, ◌≤◌, ◌==◌, Bool, true, false, not, ◌&&◌, List, ◌++◌, ap, arith}
+use Rattle.std.proofs.Common.{◌≡◌, ℕ, ◌+◌, ◌≤◌, ◌==◌, Bool, true, not, ◌&&◌, List, ◌++◌, ap, arith}
 use Rattle.std.specs.List.{count_by}
 use Rattle.std.specs.Set.{is_member}
 use Rattle.std.proofs.lemmas.Bool.Decides.{nat_tests}
@@ -7,7 +7,7 @@ use Rattle.std.proofs.lemmas.List.Sums.{sum_by-append}
 use Rattle.state_sums.specs.Networks.{Node}
 use Rattle.graph_parts.proofs.PartLaws.{count_by_all}
 use Rattle.list_lemmas.specs.Times.{times_in}
-use Rattle.list_lemmas.proofs.Times.{times_of_member, member_of_times, times_in-append, times_none}
+use Rattle.list_lemmas.proofs.Times.{times_of_member, times_in-append, times_none}
 use Rattle.arc_pairing.specs.Gluing.{open_name_count}
 use Rattle.frontier_laws.specs.Orders.{open_names}
 use Rattle.frontier_laws.proofs.OpenNames.{AreOpen-open_names}

@@ -42,6 +42,13 @@ left_below count order place m =
     let e = times_left count order place in
     (grind (arith, nat_tests, some, e), grind (arith, nat_tests, some, e))
 
+-- And such a place is left.
+pub below_left : (count : ℕ) (order : List ℕ) (place : ℕ) → place < count → is_member ◌==◌ order place ≡ false → is_member ◌==◌ (left_after count order) place ≡ true
+below_left count order place small absent =
+    let e = times_left count order place in
+    let only = member_of_times place (left_after count order) in
+    grind (arith, nat_tests, small, absent, e, only)
+
 -- A place that is left may be taken next.
 pub IsPartOrder-more : (count : ℕ) (order : List ℕ) (place : ℕ) → IsPartOrder count order → is_member ◌==◌ (left_after count order) place ≡ true → IsPartOrder count (order ++ place ∷ [])
 IsPartOrder-more count order place h m =

@@ -2,16 +2,18 @@
 --
 --     IsOneOrder next network order     an order in which each place is what `next` names is the one that `next` gives, and
 --                                       `next` gives one for any number of steps
---     IsFixed answers                   on each view there is one answer at the most
+--     IsFixed answers                   on each view with a node left there is one answer at the most
+--     IsAnswered answers network order  the places are taken once each, by answers
 --     OneOrderEach, OneLimitEach        then the network has one order of answers, and one limit at the most
 --     OpenNamesWithLaw                       what the greedy order looks at is how many names are open with one more node
 --     OneOrderLaw, WholeOrderLaw        for every function of a view, and for every order of all nodes
 --     IsOfAll network order             the nodes in this order have the network's value, and no name is open at the end
-use Rattle.std.specs.Prelude.{◌≡◌, ℕ, ◌<◌, List, [], ◌∷◌, ◌++◌, length}
+use Rattle.std.specs.Prelude.{◌≡◌, ◌≢◌, ℕ, ◌<◌, List, [], ◌∷◌, ◌++◌, length}
 use Rattle.state_sums.specs.Networks.{Network, IsNetwork}
 use Rattle.state_sums.specs.StateSums.{value}
 use Rattle.frontier_laws.specs.Orders.{View, IsPartOrder, IsChosen, taken, left_after, open_names, open_with, order_by, view_after}
 use Rattle.frontier_laws.specs.Turns.{IsWithin, IsLimited, open_count}
+use Rattle.frontier_laws.specs.Views.{IsView}
 
 -- Where the next place is a function of the view, so is the order of the network.
 pub record IsOneOrder (next : View → ℕ) (network : Network) : Type 0 where
@@ -21,14 +23,19 @@ pub record IsOneOrder (next : View → ℕ) (network : Network) : Type 0 where
 abbrev pub OneOrderLaw : Type 0
 OneOrderLaw = (next : View → ℕ) (network : Network) → IsOneOrder next network
 
--- On each view there is one answer at the most.
+-- On each view with a node left there is one answer at the most.
 abbrev pub IsFixed : (View → ℕ → Type 0) → Type 0
-IsFixed answers = (view : View) (place other : ℕ) → answers view place → answers view other → place ≡ other
+IsFixed answers = (view : View) (place other : ℕ) → IsView view → view.left ≢ [] → answers view place → answers view other → place ≡ other
+
+-- Some of the places of the network, each once, and each an answer on the view of those before it.
+pub record IsAnswered (answers : View → ℕ → Type 0) (network : Network) (order : List ℕ) : Type 0 where
+  pub part : IsPartOrder (length network.nodes) order
+  pub chosen : IsChosen answers network order
 
 -- Then two orders of answers, of so many steps, are one.
 abbrev pub OneOrderEach : (View → ℕ → Type 0) → Type 0
 OneOrderEach answers =
-    IsFixed answers → (network : Network) (order other : List ℕ) → IsChosen answers network order → IsChosen answers network other → length order ≡ length other → order ≡ other
+    IsFixed answers → (network : Network) (order other : List ℕ) → IsAnswered answers network order → IsAnswered answers network other → length order ≡ length other → order ≡ other
 
 -- And a limit is met at one step at the most: two orders of answers that end with the step that meets one are one, and an order
 -- that meets none is shorter.
@@ -37,7 +44,7 @@ pub record IsOneLimit (network : Network) (order other : List ℕ) : Type 0 wher
   pub none : IsLimited (taken network.nodes order) → IsWithin (taken network.nodes other) → length other < length order
 
 abbrev pub OneLimitEach : (View → ℕ → Type 0) → Type 0
-OneLimitEach answers = IsFixed answers → (network : Network) (order other : List ℕ) → IsChosen answers network order → IsChosen answers network other → IsOneLimit network order other
+OneLimitEach answers = IsFixed answers → (network : Network) (order other : List ℕ) → IsAnswered answers network order → IsAnswered answers network other → IsOneLimit network order other
 
 -- What the greedy order looks at: with one more node so many names are open.
 abbrev pub OpenNamesWithLaw : Type 0

@@ -6,10 +6,10 @@ use Rattle.std.specs.Set.{is_member}
 use Rattle.std.specs.Option.{unwrap_or}
 use Rattle.std.proofs.lemmas.List.{length-append}
 use Rattle.std.proofs.lemmas.List.Elements.{All-cons, All-nil}
-use Rattle.state_sums.specs.Networks.{Network}
+use Rattle.state_sums.specs.Networks.{Network, WeightsBelow}
 use Rattle.state_sums.specs.StateSums.{value}
 use Rattle.arc_pairing.specs.Nodes.{IsSmallNetwork}
-use Rattle.frontier_laws.specs.Orders.{View, view_after, taken, left_after, IsChosen, IsPartOrder}
+use Rattle.frontier_laws.specs.Orders.{View, node_at, view_after, taken, left_after, IsChosen, IsPartOrder}
 use Rattle.frontier_laws.proofs.ChosenOrders.{IsChosen-more, IsChosen-none}
 use Rattle.frontier_laws.proofs.OpenNames.{AreOpen-open_names}
 use Rattle.frontier_laws.proofs.OrdersPlaces.{IsPartOrder-none, IsPartOrder-more, left_none, order_length}
@@ -17,9 +17,12 @@ use Rattle.frontier_laws.proofs.OrdersTaken.{AreNodes-taken, AreFew-order, whole
 use Rattle.frontier_laws.proofs.TableEnds.{table_end_value}
 use Rattle.frontier_laws.proofs.TableSteps.{table_of_none}
 use Rattle.frontier_laws.proofs.TurnSteps.{within_none}
-use Rattle.frontier_sweep.specs.Frontiers.{Frontier, IsFrontier, IsLimitAfter}
+use Rattle.frontier_sweep.specs.Frontiers.{Frontier, IsFirst, IsFrontier, IsLimitAfter}
+use Rattle.frontier_sweep.specs.Rises.{IsRises, HasRises}
+use Rattle.frontier_sweep.proofs.FrontierLemmas.{risen}
+use Rattle.frontier_laws.specs.Tables.{IsTableOf}
 use Rattle.frontier_sweep.specs.Sweeps.{IsStopped, stopped_at}
-use Rattle.frontier_sweep.specs.Views.{IsView}
+use Rattle.frontier_laws.specs.Views.{IsView}
 use Rattle.frontier_sweep.specs.declared.fault.NotGlued.{NotGlued}
 use Rattle.frontier_sweep.specs.declared.fault.NotGlued.TheVariants.{Wide, Full, Memory}
 
@@ -34,19 +37,19 @@ one_below : (m : ℕ) → 1 < m → All (λ (entry : ℕ × ℕ). entry.1 < m) (
 one_below m some = All-cons (λ (entry : ℕ × ℕ). entry.1 < m) (0, 1) [] some (All-nil (λ (entry : ℕ × ℕ). entry.1 < m))
 
 -- At first none is taken.
-pub first : (answers : View → ℕ → Type 0) (m delta : ℕ) (network : Network) → 1 < m →
-    IsContractedTo answers m delta network 0 record { left = range_with_len 0 (length network.nodes); names = []; table = (0, 1) ∷ [] } 0
-first answers m delta network some = record {
+pub first : (answers : View → ℕ → Type 0) (m delta : ℕ) (network : Network) (frontier : Frontier) → 1 < m → IsFirst network frontier → IsContractedTo answers m delta network 0 frontier 0
+first answers m delta network frontier some is = record {
   order = [];
   chosen = IsChosen-none answers network;
   whole = refl;
   is = record {
     part = IsPartOrder-none (length network.nodes);
     within = within_none;
-    left_are = sym (left_none (length network.nodes));
-    names_are = refl;
-    table_of = table_of_none m delta;
-    below = one_below m some;
+    left_are = is.left_are ∙ sym (left_none (length network.nodes));
+    names_are = is.names_are;
+    rises_are = subst (λ names. IsRises network frontier.left names frontier.rises) (sym is.names_are) (is.rises_are frontier.left);
+    table_of = subst (IsTableOf m delta []) (sym is.table_is) (table_of_none m delta);
+    below = subst (All (λ entry. entry.1 < m)) (sym is.table_is) (one_below m some);
     count_is = refl;
     few_turns = omega arith;
   };
@@ -61,6 +64,13 @@ module _ (answers : View → ℕ → Type 0) (m delta : ℕ) (network : Network)
   shown =
       let s = shown_in_view network h.order h.is.part in
       subst IsView view_is record { below = s.0; increasing = s.1; names_open = s.2 }
+
+  -- What the view carries: the rises of the nodes left.
+  pub shown_rises : IsSmallNetwork network → WeightsBelow m network.nodes → 0 < m → HasRises record { network = network; left = frontier.left; names = frontier.names } frontier.rises.each
+  shown_rises small weights some = record {
+    whole = h.is.rises_are.are.whole;
+    each = λ place left. risen m delta network h.order frontier count h.is place (node_at network.nodes place) record { small = small; weights = weights; some = some; left = left; node_is = refl };
+  }
 
   -- While not all are taken, some place is left.
   pub some_left : done < length network.nodes → frontier.left ≢ []

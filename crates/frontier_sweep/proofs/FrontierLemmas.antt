@@ -1,6 +1,6 @@
 -- One step of a frontier: what it asks, where it stops, and what it leaves. A frontier is that of the nodes taken so far, so each
 -- is a law of these nodes and one more.
-use Rattle.std.proofs.Common.{◌≡◌, ℕ, ◌+◌, ◌*◌, ◌<◌, ◌≤◌, ◌==◌, true, List, [], ◌∷◌, ◌++◌, map, take, take_all, length, slice_index, get_or, sym, ap, subst, ◌∙◌, arith}
+use Rattle.std.proofs.Common.{◌≡◌, ◌≢◌, ℕ, ◌+◌, ◌*◌, ◌<◌, ◌≤◌, ◌==◌, true, false, List, [], ◌∷◌, ◌++◌, map, take, take_all, length, slice_index, get_or, sym, ap, subst, ◌∙◌, arith}
 use Rattle.std.specs.List.{All, remove}
 use Rattle.std.specs.List.Sorted.{IsStrictlyIncreasing}
 use Rattle.std.specs.Map.{keys_of}
@@ -18,7 +18,14 @@ use Rattle.frontier_laws.specs.Tables.{IsTableOf, add_all, contribution, contrib
 use Rattle.frontier_laws.specs.Turns.{IsWithinAt, IsWithin, IsWideAt, IsFullAt, open_count, pairing_count, turns, turns_of}
 use Rattle.frontier_laws.proofs.NextPairings.{seam_of}
 use Rattle.frontier_laws.proofs.OpenNames.{AreOpen-open_names, increasing-open_names, open_after, open_count-after, few_after}
-use Rattle.frontier_laws.proofs.OrdersPlaces.{IsPartOrder-more, left_below, left_more, order_length}
+use Rattle.frontier_laws.proofs.OpenWith.{once_open}
+use Rattle.frontier_laws.specs.Rises.{rise}
+use Rattle.frontier_laws.proofs.Rises.{rise-open}
+use Rattle.list_lemmas.proofs.Times.{member_of_times, times_in-append, times_none, times_of_member}
+use Rattle.std.proofs.lemmas.Bool.Decides.{nat_tests}
+use Rattle.frontier_laws.proofs.OrdersPlaces.{IsPartOrder-more, below_left, left_below, left_more, order_length}
+use Rattle.graph_parts.proofs.Distinct.{is_member-append}
+use Rattle.arc_gluing.proofs.EachState.{times_in-more}
 use Rattle.frontier_laws.proofs.OrdersTaken.{taken_more, AreNodes-taken, AreFew-order}
 use Rattle.frontier_laws.proofs.TableCounts.{table_length}
 use Rattle.frontier_laws.proofs.TableEnds.{entry_spelled}
@@ -28,6 +35,7 @@ use Rattle.frontier_laws.proofs.Tables.{add_all-append, add_all-below}
 use Rattle.frontier_laws.proofs.TurnSteps.{turns_after, within_after, wide_after, full_after}
 use Rattle.frontier_sweep.specs.Frontiers.{Frontier, IsFrontier, IsLimitAfter}
 use Rattle.frontier_sweep.specs.NotGluedNodes.{Explains}
+use Rattle.frontier_sweep.specs.Rises.{Rises, IsRises, IsAfter}
 use Rattle.frontier_sweep.specs.Steps.{IsReady, IsSeamOf, OverflowsIn, OverflowsAt}
 use Rattle.frontier_sweep.specs.declared.fault.NotGlued.{NotGlued}
 use Rattle.frontier_sweep.specs.declared.fault.NotGlued.TheVariants.{Wide, Full, Memory}
@@ -179,11 +187,70 @@ module _ (m delta : ℕ) (network : Network) (order : List ℕ) (frontier : Fron
   limit Memory explains = explains
 
   -- ---- what it leaves
+  next_left : (at : ℕ) → at < length frontier.left → slice_index frontier.left at ≡ place → remove frontier.left at ≡ left_after (length network.nodes) (order ++ place ∷ [])
+  next_left at in_range here =
+      ap (λ (left : List ℕ). remove left at) h.left_are
+      ∙ sym (left_more (length network.nodes) order place at (subst (λ (left : List ℕ). at < length left) h.left_are in_range) (ap (λ left. slice_index left at) (sym h.left_are) ∙ here))
+
+  -- A name that is no end of the node is open afterwards where it was before.
+  beside : (seam : Seam) → IsSeamOf frontier.names node.ends seam → (name : ℕ) → is_member ◌==◌ node.ends name ≡ false → is_member ◌==◌ seam.outer name ≡ is_member ◌==◌ frontier.names name
+  beside seam is name apart =
+      let both = times_in-append frontier.names node.ends name in
+      let none = times_none node.ends name apart in
+      let outer = is.outer.once name in
+      let once = once_open (taken network.nodes order) frontier.names h.names_are name in
+      let some = times_of_member name frontier.names in
+      let only = member_of_times name frontier.names in
+      let some_outer = times_of_member name seam.outer in
+      let only_outer = member_of_times name seam.outer in
+      grind (arith, nat_tests, both, none, outer, once, some, only, some_outer, only_outer)
+
+  -- A place that is left afterwards is another one that was left before.
+  kept : (other : ℕ) → is_member ◌==◌ (left_after (length network.nodes) (order ++ place ∷ [])) other ≡ true → (is_member ◌==◌ frontier.left other ≡ true) × (other ≢ place)
+  kept other in_next =
+      let left = left_below (length network.nodes) (order ++ place ∷ []) other in_next in
+      let both = is_member-append order (place ∷ []) other in
+      let absent = left.1 in
+      (
+        subst (λ left. is_member ◌==◌ left other ≡ true) (sym h.left_are) (below_left (length network.nodes) order other left.0 (grind (arith, nat_tests, both, absent))),
+        grind (arith, nat_tests, both, absent),
+      )
+
+  -- An end that it has too is open afterwards.
+  shared : (seam : Seam) → IsSeamOf frontier.names node.ends seam → (other : ℕ) → is_member ◌==◌ (left_after (length network.nodes) (order ++ place ∷ [])) other ≡ true → (name : ℕ) →
+      is_member ◌==◌ (node_at network.nodes other).ends name ≡ true → is_member ◌==◌ node.ends name ≡ true → is_member ◌==◌ seam.outer name ≡ true
+  shared seam is other in_next name in_other in_node =
+      let part_two = IsPartOrder-more (length network.nodes) (order ++ place ∷ []) other part_more in_next in
+      let two = AreFew-order network ((order ++ place ∷ []) ++ other ∷ []) t.small.twice part_two name in
+      let a = ap (λ nodes. times_in (names_of nodes) name) (taken_more network.nodes (order ++ place ∷ []) other ∙ ap (λ nodes. nodes ++ node_at network.nodes other ∷ []) more) in
+      let b = times_in-more (taken network.nodes order ++ node ∷ []) (node_at network.nodes other) name in
+      let c = times_in-more (taken network.nodes order) node name in
+      let d = times_of_member name (node_at network.nodes other).ends in_other in
+      let e = times_of_member name node.ends in_node in
+      let both = times_in-append frontier.names node.ends name in
+      let before_open = open_in.once name in
+      let names = ap (λ (names : List ℕ). times_in names name) h.names_are in
+      let outer = is.outer.once name in
+      let only_outer = member_of_times name seam.outer in
+      grind (arith, nat_tests, two, a, b, c, d, e, both, before_open, names, outer, only_outer)
+
+  -- What is left and open afterwards.
+  pub after_it : (seam : Seam) → IsSeamOf frontier.names node.ends seam → (at : ℕ) → at < length frontier.left → slice_index frontier.left at ≡ place →
+      IsAfter network.nodes place node.ends seam.outer frontier.names frontier.left (remove frontier.left at)
+  after_it seam is at in_range here =
+      let next = next_left at in_range here in
+      record {
+        beside = beside seam is;
+        kept = λ other in_next. kept other (subst (λ left. is_member ◌==◌ left other ≡ true) next in_next);
+        shared = λ other in_next. shared seam is other (subst (λ left. is_member ◌==◌ left other ≡ true) next in_next);
+      }
+
   -- THE FRONTIER WITH ONE NODE MORE
   pub next_frontier : (seam : Seam) → IsSeamOf frontier.names node.ends seam → IsShortNode node → (at : ℕ) → at < length frontier.left → slice_index frontier.left at ≡ place →
+      (left names : List ℕ) → left ≡ remove frontier.left at → names ≡ seam.outer → (rises : Rises) → IsRises network left names rises →
       (table : List (ℕ × ℕ)) → table ≡ add_all m [] (contributions delta seam node.terms frontier.table) → length table ≤ 262144 → (after : ℕ) → after ≡ count + length frontier.table * length node.terms →
-      IsFrontier m delta network (order ++ place ∷ []) record { left = remove frontier.left at; names = seam.outer; table = table } after
-  next_frontier seam is short at in_range here table table_is few_after after after_is =
+      IsFrontier m delta network (order ++ place ∷ []) record { left = left; names = names; table = table; rises = rises } after
+  next_frontier seam is short at in_range here left names left_is names_is rises rises_are table table_is few_after after after_is =
       let nodes = taken network.nodes order in
       let glued = ap (λ seam. add_all m [] (contributions delta seam node.terms frontier.table)) (seam_is seam is) in
       let table_of : IsTableOf m delta (nodes ++ node ∷ []) table = subst (IsTableOf m delta (nodes ++ node ∷ [])) (sym (table_is ∙ glued)) (table_after nodes node ok node_ok few narrow open_in open_out m delta frontier.table h.table_of) in
@@ -194,10 +261,9 @@ module _ (m delta : ℕ) (network : Network) (order : List ℕ) (frontier : Fron
       record {
         part = part_more;
         within = subst IsWithin (sym more) (within_after nodes node h.within (narrow_after seam is) (omega (arith, long, few_after)));
-        left_are =
-            ap (λ (left : List ℕ). remove left at) h.left_are
-            ∙ sym (left_more (length network.nodes) order place at (subst (λ (left : List ℕ). at < length left) h.left_are in_range) (ap (λ left. slice_index left at) (sym h.left_are) ∙ here));
-        names_are = ap (λ (seam : Seam). seam.outer) (seam_is seam is) ∙ ap open_names (sym more);
+        left_are = left_is ∙ next_left at in_range here;
+        names_are = names_is ∙ ap (λ (seam : Seam). seam.outer) (seam_is seam is) ∙ ap open_names (sym more);
+        rises_are = rises_are;
         table_of = subst (λ nodes. IsTableOf m delta nodes table) (sym more) table_of;
         below = subst (All (λ entry. entry.1 < m)) (sym table_is) (add_all-below m (contributions delta seam node.terms frontier.table) [] t.some (All-nil (λ (entry : ℕ × ℕ). entry.1 < m)));
         count_is = after_is ∙ ap (λ n. n + length frontier.table * length node.terms) h.count_is ∙ ap (λ n. turns network order + n * length node.terms) table_long ∙ sym same;
@@ -208,3 +274,11 @@ module _ (m delta : ℕ) (network : Network) (order : List ℕ) (frontier : Fron
             let long_order : length (order ++ place ∷ []) ≡ length order + 1 = length-append order (place ∷ []) in
             omega (arith, b, f, after_is, long_order));
       }
+
+  -- ---- before it is taken
+  -- THE RISE THAT IS KEPT FOR IT tells how many names are open then
+  pub risen : slice_index frontier.rises.each place + length frontier.names ≡ open_name_count (frontier.names ++ node.ends) + 24
+  risen =
+      let kept : slice_index frontier.rises.each place ≡ rise frontier.names node.ends = h.rises_are.are.right place place_below t.left ∙ ap (λ (node : Node). rise frontier.names node.ends) (sym t.node_is) in
+      ap (λ n. n + length frontier.names) kept
+      ∙ subst (λ (names : List ℕ). rise names node.ends + length names ≡ open_name_count (names ++ node.ends) + 24) (sym h.names_are) (rise-open (taken network.nodes order) node few narrow)

@@ -1,5 +1,8 @@
+mod Examples
 pub mod Entries
 pub mod Remainders
 pub mod StepLemmas
+pub mod RiseLemmas
 pub mod FrontierLemmas
 pub mod Contractions
+pub mod SweepResults

@@ -7,7 +7,7 @@ use Rattle.std.specs.Fn.{FnReturnsAt, Shared}
 use Rattle.std.specs.Set.{is_member}
 use denote.Ref.{Bor}
 use Rattle.frontier_laws.specs.Orders.{View}
-use Rattle.frontier_sweep.specs.Views.{IsView}
+use Rattle.frontier_laws.specs.Views.{IsView}
 
 -- The node is an answer of f on the view.
 abbrev pub Answers : {F : Type 0} → Shared F (Bor View × Unit {0}) ℕ → F → View → ℕ → Type 0

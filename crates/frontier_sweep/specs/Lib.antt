@@ -1,9 +1,10 @@
-pub mod Views
 pub mod Choices
+pub mod Rises
 pub mod Next
 pub mod NextLeft
 pub mod LoopPowers
 pub mod Steps
 pub mod NotGluedNodes
 pub mod Sweeps
+pub mod SweepResults
 pub mod Frontiers

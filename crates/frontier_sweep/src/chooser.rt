@@ -4,7 +4,7 @@ ghost use Rattle.std.specs.Prelude.{◌≡◌, ◌≢◌, ◌==◌, ℕ, [], tru
 ghost use Rattle.std.specs.Set.{is_member};
 ghost use Rattle.frontier_laws.specs.Orders as Orders;
 ghost use Rattle.frontier_sweep.specs.Choices.{Answers, Chooses};
-ghost use Rattle.frontier_sweep.specs.Views.{IsView};
+ghost use Rattle.frontier_laws.specs.Views.{IsView};
 
 use crate::view::View;
 use std::marker::Model;

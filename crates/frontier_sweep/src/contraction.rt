@@ -1,14 +1,20 @@
 //! The contraction of a network, node by node.
 
-ghost use Rattle.std.specs.Prelude.{◌≡◌, ◌<◌, ◌≤◌, ◌^◌, ℕ, IfOk, IfErr, OnOk, OnErr};
+ghost use Rattle.std.specs.Prelude.{◌≡◌, ◌⊎◌, ◌<◌, ◌≤◌, ◌+◌, ◌^◌, ℕ, Ok, Err, IfOk, IfErr, OnOk, OnErr};
 ghost use Rattle.state_sums.specs.Networks.{WeightsBelow};
 ghost use Rattle.state_sums.specs.StateSums.{value};
 ghost use Rattle.root_quantum.specs.QuantumNumbers.{loop_value};
+ghost use Rattle.frontier_laws.specs.Orders.{View};
+ghost use Rattle.frontier_laws.specs.Views.{IsNext};
+ghost use Rattle.frontier_sweep.specs.Next.{next_of};
+ghost use Rattle.frontier_sweep.specs.SweepResults.{sweep};
+ghost use Rattle.frontier_sweep.specs.declared.fault.SweepFault.TheVariants.{Memory};
 ghost use Rattle.frontier_sweep.specs.Sweeps.{IsSwept, IsStopped, stopped_at};
 
 use crate::chooser::{Choose, Chooser};
 use crate::fault::{NotGlued, SweepFault};
 use crate::frontier::Frontier;
+use crate::order::Order;
 use crate::powers::LoopPowers;
 use arc_pairing::{Network, Turns};
 use root_quantum::Params;
@@ -48,6 +54,12 @@ pub fn contract<C: Choose>(
     ensures swept { OnOk result (IsSwept (C.answers chooser.now) network.now turns.old turns.new) }
     ensures stopped { IfErr result (IsStopped (C.answers chooser.now) network.now) }
     ensures kept { OnErr result (turns.new ≡ turns.old) }
+
+    // Where one function of the view tells each answer, the turns and the limit are those of its order.
+    ensures turns { (next : View → ℕ) → IsNext next (C.answers chooser.now) →
+        OnOk result ((count : ℕ) × (sweep next network.now ≡ Ok count) × (turns.new ≡ turns.old + count)) }
+    ensures limit { (next : View → ℕ) → IsNext next (C.answers chooser.now) →
+        IfErr result (λ fault. (fault ≡ Memory) ⊎ (sweep next network.now ≡ Err fault)) }
 {
     let powers = LoopPowers::of(params.ring(), params.loop_value());
     let mut own = Turns::new();
@@ -65,4 +77,23 @@ pub fn contract<C: Choose>(
     let sum = frontier.value(&powers, network.free());
     turns.take_in(own);
     Ok(sum)
+}
+
+/// The value of the network in one of the three orders, as by `contract`: its turns and the first limit that
+/// is met are functions of the order and the network.
+pub fn contract_in_order(
+    alloc: Global,
+    params: &Params,
+    network: &Network,
+    order: &Chooser<Order>,
+    turns: &mut Turns,
+) -> Result<u64, SweepFault>
+    requires weights { WeightsBelow params.now.modulus network.now.nodes }
+    requires room { turns.old < 2 ^ 120 }
+    ensures value { IfOk result (λ sum. sum ≡ value params.now.modulus (loop_value params.now) network.now) }
+    ensures turns { OnOk result ((count : ℕ) × (sweep (next_of order.now) network.now ≡ Ok count) × (turns.new ≡ turns.old + count)) }
+    ensures limit { IfErr result (λ fault. (fault ≡ Memory) ⊎ (sweep (next_of order.now) network.now ≡ Err fault)) }
+    ensures kept { OnErr result (turns.new ≡ turns.old) }
+{
+    contract(alloc, params, network, order, turns)
 }

@@ -6,11 +6,13 @@ ghost use Rattle.std.specs.Map.{lookup};
 ghost use Rattle.std.specs.Option.{unwrap_or};
 ghost use Rattle.std.specs.Set.{is_member};
 ghost use Rattle.state_sums.specs.Networks.{WeightsBelow};
-ghost use Rattle.frontier_sweep.specs.Views.{IsView};
-ghost use Rattle.frontier_sweep.specs.Frontiers.{IsFrontier, IsLimitAfter};
+ghost use Rattle.frontier_laws.specs.Views.{IsView};
+ghost use Rattle.frontier_sweep.specs.Rises.{HasRises};
+ghost use Rattle.frontier_sweep.specs.Frontiers.{IsFirst, IsFrontier, IsLimitAfter};
 
 use crate::fault::NotGlued;
 use crate::powers::LoopPowers;
+use crate::rises::Rises;
 use crate::step::glue_node;
 use crate::table::Table;
 use crate::view::View;
@@ -20,16 +22,18 @@ use std::alloc::{AllocError, Global};
 use std::marker::Model;
 use std::mem;
 
-/// The places of the nodes that are left, increasing, the open names, increasing, and the table of the
-/// pairings of these; beside it the table of the next step, so that none is made anew.
+/// The places of the nodes that are left, increasing, the open names, increasing, the table of the pairings of
+/// these, and by how much their number rises at each node; beside it the table of the next step, so that none
+/// is made anew.
 ///
-/// Contracts see the first three.
+/// Contracts see the first four.
 #[derive(Drop)]
 pub(crate) struct Frontier {
     left: Vec<u32>,
     names: ArrayVec<u32, MOST_POINTS>,
     table: Table,
     next: Table,
+    rises: Rises,
 }
 
 impl Model for Frontier {
@@ -37,7 +41,7 @@ impl Model for Frontier {
 
     ghost Value = { Frontiers.Frontier };
 
-    ghost view = { λ frontier. record { left = frontier.left.items; names = frontier.names.items; table = frontier.table } };
+    ghost view = { λ frontier. record { left = frontier.left.items; names = frontier.names.items; table = frontier.table; rises = frontier.rises } };
 }
 
 /// The places from 0 on, so many.
@@ -69,24 +73,32 @@ fn index_of(places: &[u32], place: u32) -> usize
 impl Frontier {
     /// What is kept before the first step.
     pub(crate) fn start(alloc: Global, network: &Network) -> Result<Frontier, AllocError>
-        ensures { IfOk result (λ frontier. frontier ≡ record { left = range_with_len 0 (length network.now.nodes); names = []; table = (0, 1) ∷ [] }) }
+        ensures { IfOk result (IsFirst network.now) }
     {
         let left = places(alloc, network.nodes().len())?;
         let table = Table::of_none(alloc)?;
+        let rises = Rises::start(alloc, network)?;
         Ok(Frontier {
             left,
             names: ArrayVec::new(),
             table,
             next: Table::new(alloc),
+            rises,
         })
     }
 
     /// What a chooser sees.
     pub(crate) fn view<'a>(&'a self, network: &'a Network) -> View<'a>
-        requires { IsView record { network = network.now; left = self.now.left; names = self.now.names } }
+        requires view { IsView record { network = network.now; left = self.now.left; names = self.now.names } }
+        requires rises { HasRises record { network = network.now; left = self.now.left; names = self.now.names } self.now.rises.each }
         ensures { result ≡ record { network = network.now; left = self.now.left; names = self.now.names } }
     {
-        View::new(network, &self.left, self.names.as_slice())
+        View::new(
+            network,
+            &self.left,
+            self.names.as_slice(),
+            self.rises.as_slice(),
+        )
     }
 
     /// Takes the node at that place, which is left.
@@ -111,6 +123,8 @@ impl Frontier {
         let seam = glue_node(powers, names, node, &self.table, &mut self.next, turns)?;
         mem::swap(&mut self.table, &mut self.next);
         self.names = seam.into_names();
+        self.rises
+            .refresh(network, self.names.as_slice(), node.ends(), place);
         let index = index_of(&self.left, place);
         self.left.remove(index);
         Ok(())

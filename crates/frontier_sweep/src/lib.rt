@@ -3,17 +3,19 @@
 
 mod chooser;
 mod contraction;
+mod ends_index;
 mod fault;
 mod frontier;
 mod laws;
 mod order;
 mod powers;
+mod rises;
 mod step;
 mod table;
 mod view;
 
 pub use chooser::{Choose, Chooser, Kept};
-pub use contraction::contract;
+pub use contraction::{contract, contract_in_order};
 pub use fault::SweepFault;
 pub use laws::one_order_each;
 pub use order::{Order, given_next, greedy_next, listed_next};

@@ -10,7 +10,6 @@ ghost use Rattle.frontier_laws.specs.Orders.{node_at, first_least, listed_of, gr
 
 use crate::chooser::Choose;
 use crate::view::View;
-use list_lemmas::count_of;
 
 /// The first of the places at which the measure is least. There is a place.
 fn first_least<F: Fn(u32) -> u64>(places: &[u32], measure: F) -> u32
@@ -29,34 +28,6 @@ fn first_least<F: Fn(u32) -> u64>(places: &[u32], measure: F) -> u32
         }
     }
     best
-}
-
-/// How many of the names are no ends.
-fn kept_names(names: &[u32], ends: &[u32]) -> usize
-    ensures value { result ≡ count_by (λ name. not (is_member ◌==◌ ends.now name)) names.now }
-    ensures bound { result ≤ length names.now }
-{
-    names.iter().filter(|name| !ends.contains(*name)).count()
-}
-
-/// How many of the ends are none of the names and stand once.
-fn new_names(names: &[u32], ends: &[u32]) -> usize
-    ensures value { result ≡ count_by (λ end. not (is_member ◌==◌ names.now end) && (times_in ends.now end == 1)) ends.now }
-    ensures bound { result ≤ length ends.now }
-{
-    ends.iter()
-        .filter(|end| !names.contains(*end) && count_of(ends, **end) == 1)
-        .count()
-}
-
-/// How many names are open when the node at that place is taken too.
-fn open_with(view: &View, place: u32) -> u64
-    requires { place < length view.now.network.nodes }
-    ensures { result ≡ open_with view.now place }
-{
-    let names = view.names();
-    let ends = view.network().nodes()[place as usize].ends();
-    (kept_names(names, ends) + new_names(names, ends)) as u64
 }
 
 /// The first place of the group in the list.
@@ -101,7 +72,8 @@ pub fn greedy_next(view: &View) -> u32
     ensures next { result ≡ greedy_of view.now }
     ensures left { is_member ◌==◌ view.now.left result ≡ true }
 {
-    first_least(view.left(), |place| open_with(view, place))
+    let rises = view.rises();
+    first_least(view.left(), |place| u64::from(rises[place as usize]))
 }
 
 /// The order that a list of groups gives: among the places left, those whose group stands first in the

@@ -11,6 +11,7 @@ use plain_sum::plain_sum;
 use root_quantum::Params;
 use std::alloc::Global;
 use std::test::Fail;
+use std::thread::{Threads, join};
 
 /// A node: its group, the names of its ends, and its terms, each a weight and the partners of the places.
 type NodeRow = (u32, &'static [u32], &'static [(u64, &'static [u8])]);
@@ -139,21 +140,39 @@ fn weights_below(network: &Network, m: u64) -> bool
 }
 
 /// What `contract` answers at 41, 2, 5, where a loop is worth 6, and the turns that it counts.
-fn swept<C: Choose + Drop>(
-    alloc: Global,
-    network: &Network,
-    choose: C,
-) -> Option<(Result<u64, SweepFault>, u128)>
-    requires { C.chooses choose }
-{
+type Answer = (Result<u64, SweepFault>, u128);
+
+fn answer_of<C: Choose>(alloc: Global, network: &Network, chooser: &Chooser<C>) -> Option<Answer> {
     let params = Params::new(41, 2, 5).ok()?;
     if !weights_below(network, params.ring().modulus()) {
         return None;
     }
-    let chooser = Chooser::keep(choose);
     let mut turns = Turns::new();
-    let answer = contract(alloc, &params, network, &chooser, &mut turns);
+    let answer = contract(alloc, &params, network, chooser, &mut turns);
     Some((answer, turns.count()))
+}
+
+fn swept<C: Choose + Drop>(alloc: Global, network: &Network, choose: C) -> Option<Answer>
+    requires { C.chooses choose }
+{
+    answer_of(alloc, network, &Chooser::keep(choose))
+}
+
+/// The same by each of two threads, which share the chooser.
+fn swept_in_threads<R: Threads + Sync, C: Choose + Sync + Drop>(
+    rt: &R,
+    alloc: Global,
+    network: &Network,
+    choose: C,
+) -> (Option<Answer>, Option<Answer>)
+    requires { C.chooses choose }
+{
+    let chooser = Chooser::keep(choose);
+    join(
+        rt,
+        || answer_of(alloc, network, &chooser),
+        || answer_of(alloc, network, &chooser),
+    )
 }
 
 /// The order that this list of groups gives.
@@ -305,6 +324,8 @@ fn closures(rt: HostRuntime) -> Result<(), Fail> {
     )
     .ok_or("no answer")?;
     assert_eq!(rt; outer_first, (Ok(2), 18));
+    let shared = swept_in_threads(&rt, rt.alloc(), &network, Kept(|view: &View| greedy_next(view)));
+    assert_eq!(rt; shared, (Some((Ok(2), 14)), Some((Ok(2), 14))));
     Ok(())
 }
 

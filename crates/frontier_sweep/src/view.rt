@@ -1,7 +1,8 @@
 //! What a chooser sees.
 
 ghost use Rattle.std.specs.Prelude.{◌≡◌, length};
-ghost use Rattle.frontier_sweep.specs.Views.{IsView};
+ghost use Rattle.frontier_laws.specs.Views.{IsView};
+ghost use Rattle.frontier_sweep.specs.Rises.{HasRises};
 
 use arc_pairing::Network;
 use std::marker::Model;
@@ -10,35 +11,46 @@ use std::marker::Model;
 /// project's own).
 ///
 /// Contracts see a view as these three values. Its type keeps that each node left is below the number
-/// of nodes, and that its names are those that stand once in the nodes that aren't left.
+/// of nodes, and that its names are those that stand once in the nodes that aren't left; and beside them how
+/// many names more or fewer are open when each node left is taken.
 #[derive(Drop)]
 pub struct View<'a> {
     network: &'a Network,
     left: &'a [u32],
     names: &'a [u32],
+    rises: &'a [u8],
 }
 
 impl<'a> Model for View<'a> {
     ghost use Rattle.frontier_laws.specs.Orders;
-    ghost use Rattle.frontier_sweep.specs.Views.{IsView};
+    ghost use Rattle.frontier_laws.specs.Views.{IsView};
+    ghost use Rattle.frontier_sweep.specs.Rises.{HasRises};
 
     ghost Value = { Orders.View };
 
     ghost view = { λ view. record { network = view.network.now; left = view.left.now; names = view.names.now } };
 
-    ghost invariant = { λ view. IsView record { network = view.network.now; left = view.left.now; names = view.names.now } };
+    ghost invariant = { λ view. IsView record { network = view.network.now; left = view.left.now; names = view.names.now }
+        × HasRises record { network = view.network.now; left = view.left.now; names = view.names.now } view.rises.now };
 }
 
 impl<'a> View<'a> {
     /// The view of these.
-    pub(crate) fn new(network: &'a Network, left: &'a [u32], names: &'a [u32]) -> View<'a>
-        requires { IsView record { network = network.now; left = left.now; names = names.now } }
+    pub(crate) fn new(
+        network: &'a Network,
+        left: &'a [u32],
+        names: &'a [u32],
+        rises: &'a [u8],
+    ) -> View<'a>
+        requires view { IsView record { network = network.now; left = left.now; names = names.now } }
+        requires rises { HasRises record { network = network.now; left = left.now; names = names.now } rises.now }
         ensures { result ≡ record { network = network.now; left = left.now; names = names.now } }
     {
         View {
             network,
             left,
             names,
+            rises,
         }
     }
 
@@ -63,5 +75,13 @@ impl<'a> View<'a> {
         ensures view { IsView self.now }
     {
         self.names
+    }
+
+    /// For each node left, at its place, how many names more are open when it is taken, plus 24.
+    pub(crate) fn rises(&self) -> &[u8]
+        ensures value { HasRises self.now result.now }
+        ensures view { IsView self.now }
+    {
+        self.rises
     }
 }

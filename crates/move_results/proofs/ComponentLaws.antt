@@ -18,7 +18,8 @@ use Rattle.diagram_moves.specs.Laws.{IsPairedDiagram}
 use Rattle.move_results.specs.Laws.{ComponentsLaw}
 use Rattle.diagram_moves.specs.Moves.{curl_slots, curled_loop}
 use Rattle.diagram_moves.specs.Rewriting.{crossing_labels, fresh}
-use Rattle.diagram_moves.specs.Steps.{R2, R2Undo, R3, Curl, CurlUndo, BlowUp}
+use Rattle.diagram_moves.specs.declared.factor.Factor.{Factor}
+use Rattle.script_reader.specs.declared.step.Step.TheVariants.{R2, R2Undo, R3, Curl, CurlUndo, BlowUp}
 use Rattle.move_results.proofs.ClosedComponents.{pulled_components, uncurled_components}
 use Rattle.move_results.proofs.CurledComponents.{curled_components}
 use Rattle.diagram_moves.proofs.Curling.{loop_label, loop_label_e, loop_label_k, low_e, is_loop_label, loop_slots_four, sizes-curled_loop}
@@ -34,7 +35,7 @@ use Rattle.move_results.proofs.PairedAgain.{loop_labels-append}
 use Rattle.diagram_moves.proofs.Pushing.{crossing_labels-append}
 use Rattle.graph_parts.proofs.Through.{inside-from_Joined}
 use Rattle.move_results.proofs.PushedComponents.{pushed_components}
-use Rattle.move_results.proofs.Results.{Reached, by_push, by_pull, by_slide, by_curl, by_curl_on_loop, by_uncurl, reached, blown_up}
+use Rattle.diagram_moves.proofs.Results.{Reached, by_push, by_pull, by_slide, by_curl, by_curl_on_loop, by_uncurl, reached, blown_up}
 use Rattle.move_results.proofs.TriangleComponents.{triangle_components}
 use Rattle.list_lemmas.specs.Times.{times_in}
 
@@ -172,7 +173,7 @@ module _ (items : List Item) (pd : IsPairedDiagram items) (e : ℕ) (has : is_me
       least_labels_by items after pd.sizes (sizes-curled_loop e slots (loop_slots_four items pd e has out sign) items pd.sizes) (least_in_big after items to loop_contracts) (least_in_small after items to loop_contracts)
 
 -- ---- the moves but BlowUp
-kept_components : (items after : List Item) → IsPairedDiagram items → Reached items after → least_labels after ≡ least_labels items
+kept_components : (items after : List Item) → IsPairedDiagram items → {factor : Factor} → Reached items factor after → least_labels after ≡ least_labels items
 kept_components items after pd (by_push e f first_of_e first_of_f has_e has_f apart) = pushed_components items pd e f has_e has_f apart first_of_e first_of_f
 kept_components items after pd (by_pull c g here there s t at_c at_g apart low_s low_t test) = pulled_components items pd c g here there s t at_c at_g apart low_s low_t test
 kept_components items after pd (by_slide c g f here there beyond s t u at_c at_g at_f distinct low_s low_t low_u test) =

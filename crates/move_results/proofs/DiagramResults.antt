@@ -12,7 +12,10 @@ use Rattle.diagram_moves.specs.Laws.{IsPairedDiagram}
 use Rattle.move_results.specs.Laws.{DiagramAgainLaw}
 use Rattle.diagram_moves.specs.Moves.{move}
 use Rattle.diagram_moves.specs.Rewriting.{fresh}
-use Rattle.diagram_moves.specs.Steps.{Step, Moved, R2, R2Undo, R3, Curl, CurlUndo, BlowUp}
+use Rattle.script_reader.specs.declared.step.Step.{Step}
+use Rattle.diagram_moves.specs.declared.factor.Factor.{Factor}
+use Rattle.script_reader.specs.declared.step.Step.TheVariants.{R2, R2Undo, R3, Curl, CurlUndo, BlowUp}
+use Rattle.diagram_moves.specs.Steps.{Moved}
 use Rattle.move_results.proofs.ClosedComponents.{pulled_contracts, uncurled_contracts}
 use Rattle.move_results.proofs.ComponentLaws as loops
 use Rattle.move_results.proofs.CurledComponents as curls
@@ -22,7 +25,7 @@ use Rattle.list_lemmas.proofs.Times.{member_of_times, times_none, times_of_membe
 use Rattle.move_results.proofs.PairedResults.{paired_again, triangle_edges}
 use Rattle.move_results.proofs.PushedComponents as pushes
 use Rattle.diagram_moves.proofs.Pushing.{new_four}
-use Rattle.move_results.proofs.Results.{Reached, by_push, by_pull, by_slide, by_curl, by_curl_on_loop, by_uncurl, reached, blown_up, blown_few}
+use Rattle.diagram_moves.proofs.Results.{Reached, by_push, by_pull, by_slide, by_curl, by_curl_on_loop, by_uncurl, reached, blown_up, blown_few}
 use Rattle.move_results.proofs.TriangleComponents.{after_members}
 use Rattle.list_lemmas.specs.Times.{times_in}
 
@@ -45,7 +48,7 @@ of_two n z h = (grind (arith, nat_tests, h), grind (arith, nat_tests, h))
 of_one : (n z : ℕ) → 1 ≤ cond {A = ℕ} (z == n) 1 0 → (n ≤ z) × (z ≤ n + 3)
 of_one n z h = (grind (arith, nat_tests, h), grind (arith, nat_tests, h))
 
-pub old_or_new : (items after : List Item) → IsPairedDiagram items → Reached items after → (z : ℕ) → is_member ◌==◌ (labels item_labels after) z ≡ true → OldOrNew items z
+pub old_or_new : (items after : List Item) → IsPairedDiagram items → {factor : Factor} → Reached items factor after → (z : ℕ) → is_member ◌==◌ (labels item_labels after) z ≡ true → OldOrNew items z
 old_or_new items after pd (by_push e f b c has_e has_f apart) z m =
     from_total items after z (new_four (fresh items) z) (pushes.total items pd e f has_e has_f apart b c z) (of_four (fresh items) z) m
 old_or_new items after pd (by_pull c g here there s t at_c at_g apart low_s low_t test) z m = inl ((pulled_contracts items pd c g here there s t at_c at_g apart low_s low_t test).within z m)

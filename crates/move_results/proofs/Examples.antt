@@ -5,7 +5,7 @@ use Rattle.pd_reader.specs.declared.item.Item.TheVariants.{X}
 use Rattle.planar_check.specs.declared.sign.Sign.TheVariants as signs
 use Rattle.planar_check.specs.Places.{other_place}
 use Rattle.diagram_moves.specs.Moves.{is_bigon}
-use Rattle.diagram_moves.specs.Steps.{BlowUp, Curl}
+use Rattle.script_reader.specs.declared.step.Step.TheVariants.{BlowUp, Curl}
 use Rattle.move_results.specs.Laws.{added, place, next_of}
 
 abbrev pushed_trefoil : List Item

@@ -5,7 +5,6 @@ pub mod CurledComponents
 pub mod ClosedComponents
 pub mod TriangleComponents
 pub mod PairedAgain
-pub mod Results
 pub mod PairedResults
 pub mod ComponentLaws
 pub mod FaceSteps

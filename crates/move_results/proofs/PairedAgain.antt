@@ -13,7 +13,7 @@ use Rattle.graph_parts.proofs.Through.{inside-from_Joined}
 use Rattle.pd_reader.specs.declared.item.Item.{Item}
 use Rattle.pd_reader.specs.declared.item.Item.TheVariants as item
 use Rattle.pd_reader.specs.Items.{item_labels, HasItsSlots}
-use Rattle.pd_reader.specs.Diagrams.{labels, times}
+use Rattle.pd_reader.specs.Diagrams.{labels}
 use Rattle.state_sums.specs.Networks.{names_of}
 use Rattle.state_sums.proofs.NodeNames.{names_of-rename}
 use Rattle.diagram_moves.specs.Laws.{IsPairedDiagram}
@@ -22,7 +22,7 @@ use Rattle.diagram_moves.specs.Moves.{two_labels, closing, removed}
 use Rattle.diagram_moves.proofs.Nodes.{kept, names_of-nodes}
 use Rattle.diagram_moves.proofs.Pushing.{crossing_labels-append}
 use Rattle.diagram_moves.proofs.Undone.{nodes_of-removed, sizes-closing}
-use Rattle.diagram_moves.proofs.Paired.{paired, flip_times, times_labels, twice_in_all, loop_labels}
+use Rattle.diagram_moves.proofs.Paired.{paired, times_labels, twice_in_all, loop_labels}
 use Rattle.list_lemmas.proofs.Times.{member_of_times, times_none, times_in-append, times_of_member}
 use Rattle.diagram_moves.proofs.PlaceLemmas.{fresh_above}
 use Rattle.list_lemmas.specs.Times.{times_in}
@@ -38,8 +38,8 @@ pub paired_diagram : (items : List Item) → AllByRecursion HasItsSlots items �
     ((z : ℕ) → 1 ≤ times_in (labels item_labels items) z → times_in (labels item_labels items) z ≡ 2) → IsPairedDiagram items
 paired_diagram items sizes h = record {
   sizes = sizes;
-  twice = by_recursion (λ label. times label (labels item_labels items) ≡ 2) (labels item_labels items)
-      (λ x m. flip_times x (labels item_labels items) ∙ h x (times_of_member x (labels item_labels items) m));
+  twice = by_recursion (λ label. times_in (labels item_labels items) label ≡ 2) (labels item_labels items)
+      (λ x m. h x (times_of_member x (labels item_labels items) m));
 }
 
 -- as many standings as before, and two more of new labels

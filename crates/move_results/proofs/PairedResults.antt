@@ -17,8 +17,9 @@ use Rattle.move_results.proofs.PairedAgain.{paired_diagram, fresh_all, closing_p
 use Rattle.diagram_moves.proofs.NoNumbers.{nothing, modulo_one}
 use Rattle.diagram_moves.proofs.Pulling.{recounted, curl_recounted, wrapped}
 use Rattle.diagram_moves.proofs.Pushing.{sizes-pushed, pushed_times, new_four, new_four_old, new_four_most, crossing_labels-append}
-use Rattle.move_results.proofs.Results.{Reached, by_push, by_pull, by_slide, by_curl, by_curl_on_loop, by_uncurl, reached, blown_up}
-use Rattle.diagram_moves.specs.Steps.{R2, R2Undo, R3, Curl, CurlUndo, BlowUp}
+use Rattle.diagram_moves.proofs.Results.{Reached, by_push, by_pull, by_slide, by_curl, by_curl_on_loop, by_uncurl, reached, blown_up}
+use Rattle.diagram_moves.specs.declared.factor.Factor.{Factor}
+use Rattle.script_reader.specs.declared.step.Step.TheVariants.{R2, R2Undo, R3, Curl, CurlUndo, BlowUp}
 use Rattle.diagram_moves.proofs.Rewritten.{anew, loop_labels-rewritten}
 use Rattle.diagram_moves.proofs.Triangles.{sizes-triangle, after_times}
 use Rattle.list_lemmas.specs.Times.{times_in}
@@ -75,7 +76,7 @@ triangle_edges here there beyond s t u test =
       sym (eqb-true (slot beyond (u + 1)) (slot here (s + 3)) t3.0),
     )
 
-again : (items after : List Item) → IsPairedDiagram items → Reached items after → IsPairedDiagram after
+again : (items after : List Item) → IsPairedDiagram items → {factor : Factor} → Reached items factor after → IsPairedDiagram after
 again items after pd (by_push e f first_of_e first_of_f has_e has_f apart) =
     let n = fresh items in
     paired_diagram (pushed items e f first_of_e first_of_f) (sizes-pushed items pd e f has_e has_f apart first_of_e first_of_f)

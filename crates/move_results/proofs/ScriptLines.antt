@@ -1,32 +1,33 @@
 -- The brackets along a script.
-use Rattle.std.proofs.Common.{◌≡◌, ℕ, ◌+◌, List, [], ◌∷◌, Option, Some, None, Result, Ok, Err, refl, sym, ap, subst}
+use Rattle.std.proofs.Common.{◌≡◌, ℕ, ◌+◌, List, [], ◌∷◌, Option, Some, None, Ok, Err, refl, sym, ap, subst}
 use Rattle.planar_check.specs.declared.fault.PlanarFault.{PlanarFault}
 use Rattle.planar_check.specs.Places.{item_slots}
 use Rattle.planar_check.specs.Planar.{planar_refusal}
-use Rattle.diagram_moves.specs.Moves.{Answer, move}
-use Rattle.diagram_moves.specs.Scripts.{StepRefusal, by_move, by_plane, kept_planar, judged, applied, Played, going_on, behind, played}
+use Rattle.diagram_moves.specs.Moves.{move}
+use Rattle.diagram_moves.specs.declared.fault.MoveFault.{MoveFault}
+use Rattle.diagram_moves.specs.Scripts.{kept_planar, judged, applied, Played, going_on, behind, played}
 use Rattle.move_results.specs.Laws.{AreLines, ScriptLinesLaw}
-use Rattle.diagram_moves.specs.Steps.{Moved}
+use Rattle.diagram_moves.specs.Steps.{Answer, Moved, of_plane}
 use Rattle.move_results.proofs.PairedResults.{paired_again}
 use Rattle.diagram_moves.proofs.PlainMoves.{plain_moves}
 
-refused_not : (refusal : StepRefusal) (moved : Moved) → ◌≡◌ {A = Result Moved StepRefusal} (Err refusal) (Ok moved) → ⊥
+refused_not : (refusal : MoveFault) (moved : Moved) → ◌≡◌ {A = Answer} (Err refusal) (Ok moved) → ⊥
 refused_not refusal moved h = cc
 
-stopped_not : (at : ℕ × StepRefusal) (results : List Moved) → ◌≡◌ {A = Played} (Err at) (Ok results) → ⊥
+stopped_not : (at : ℕ × MoveFault) (results : List Moved) → ◌≡◌ {A = Played} (Err at) (Ok results) → ⊥
 stopped_not at results h = cc
 
 -- what is kept is what was made
 kept_is : (made moved : Moved) (fault : Option PlanarFault) → kept_planar made fault ≡ Ok moved → made ≡ moved
-kept_is made moved None h = let e : ◌≡◌ {A = Result Moved StepRefusal} (Ok made) (Ok moved) = h in cc
-kept_is made moved (Some fault) h = absurd (refused_not (by_plane fault) moved h)
+kept_is made moved None h = let e : ◌≡◌ {A = Answer} (Ok made) (Ok moved) = h in cc
+kept_is made moved (Some fault) h = absurd (refused_not (of_plane fault) moved h)
 
 judged_is : (answer : Answer) (moved : Moved) → judged answer ≡ Ok moved → answer ≡ Ok moved
-judged_is (Err refusal) moved h = absurd (refused_not (by_move refusal) moved h)
+judged_is (Err refusal) moved h = absurd (refused_not refusal moved h)
 judged_is (Ok made) moved h = ap Ok (kept_is made moved (planar_refusal item_slots made.items) h)
 
 -- an accepted step, and the steps behind it
-gone_on : (k : ℕ) (answer : Result Moved StepRefusal) (next : Moved → Played) (results : List Moved) → going_on k answer next ≡ Ok results → (moved : Moved) × (answer ≡ Ok moved) × (next moved ≡ Ok results)
+gone_on : (k : ℕ) (answer : Answer) (next : Moved → Played) (results : List Moved) → going_on k answer next ≡ Ok results → (moved : Moved) × (answer ≡ Ok moved) × (next moved ≡ Ok results)
 gone_on k (Err refusal) next results h = absurd (stopped_not (k, refusal) results h)
 gone_on k (Ok moved) next results h = (moved, refl, h)
 

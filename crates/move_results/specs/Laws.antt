@@ -14,7 +14,9 @@ use Rattle.planar_check.specs.Places.{other_places, crossings_of, slots_after, p
 use Rattle.diagram_brackets.specs.Brackets.{bracket}
 use Rattle.diagram_moves.specs.Moves.{move, is_bigon, is_triangle}
 use Rattle.diagram_moves.specs.Rewriting.{slot, crossing_at, fresh}
-use Rattle.diagram_moves.specs.Steps.{Step, R2, R2Undo, R3, Curl, CurlUndo, BlowUp, Moved}
+use Rattle.script_reader.specs.declared.step.Step.{Step}
+use Rattle.script_reader.specs.declared.step.Step.TheVariants.{R2, R2Undo, R3, Curl, CurlUndo, BlowUp}
+use Rattle.diagram_moves.specs.Steps.{Moved}
 use Rattle.diagram_moves.specs.Values.{factor_value}
 use Rattle.planar_check.specs.Planar.{next_in_face}
 use Rattle.diagram_moves.specs.Scripts.{played}

@@ -10,7 +10,7 @@ use Rattle.std.specs.List.Sorted.{IsPartitionPoint, IsPermutation}
 use Rattle.std.proofs.lemmas.Bool.Decides.{nat_tests}
 use Rattle.std.proofs.lemmas.List.Sorted.{sum_by-IsPermutation}
 use Rattle.std.proofs.lemmas.List.Sums.{sum_by-cons}
-use Rattle.pd_reader.specs.Diagrams.{times}
+use Rattle.list_lemmas.specs.Times.{times_in}
 
 count_by-cons : (p : ℕ → Bool) (x : ℕ) (xs : List ℕ) → count_by p (x ∷ xs) ≡ cond (p x) 1 0 + count_by p xs
 count_by-cons p x xs = sum_by-cons (λ n. cond (p n) 1 0) x xs
@@ -24,30 +24,30 @@ count-partition p (x ∷ xs) (suc i) le pass fail =
     count_by-cons p x xs ∙ rw (pass 0 (omega arith)) (omega (arith, rest))
 
 -- at most the label: below it, or the label
-one_parted : (n label : ℕ) → cond (leb n label) 1 0 ≡ cond (ltb n label) 1 0 + cond (n == label) 1 0
+one_parted : (n label : ℕ) → cond (leb n label) 1 0 ≡ cond (ltb n label) 1 0 + cond (label == n) 1 0
 one_parted n label = grind (arith, nat_tests)
 
-count-parted : (label : ℕ) (xs : List ℕ) → count_by (λ n. leb n label) xs ≡ count_by (λ n. ltb n label) xs + times label xs
+count-parted : (label : ℕ) (xs : List ℕ) → count_by (λ n. leb n label) xs ≡ count_by (λ n. ltb n label) xs + times_in xs label
 count-parted label [] = refl
 count-parted label (n ∷ xs) =
     let ih = count-parted label xs in
     let one = one_parted n label in
     let up = count_by-cons (λ m. leb m label) n xs in
     let low = count_by-cons (λ m. ltb m label) n xs in
-    let here = count_by-cons (λ m. m == label) n xs in
+    let here = count_by-cons (λ m. label == m) n xs in
     omega (arith, ih, one, up, low, here)
 
 -- TWO SEARCHES COUNT A LABEL
 pub times-searches : (label : ℕ) (xs : List ℕ) (below up_to : ℕ) → below ≤ length xs → up_to ≤ length xs → IsPartitionPoint (λ n. ltb n label ≡ true) (λ n. ltb n label ≡ false) xs below → IsPartitionPoint (λ n. leb n label ≡ true) (λ n. leb n label ≡ false) xs up_to
-    → (below ≤ up_to) × (up_to - below ≡ times label xs)
+    → (below ≤ up_to) × (up_to - below ≡ times_in xs label)
 times-searches label xs below up_to in_below in_up_to low high =
     let a = count-partition (λ n. ltb n label) xs below in_below (λ k lt. low.0 k 0 (omega arith) lt) (λ k le lt. low.1 k 0 le lt) in
     let b = count-partition (λ n. leb n label) xs up_to in_up_to (λ k lt. high.0 k 0 (omega arith) lt) (λ k le lt. high.1 k 0 le lt) in
     let c = count-parted label xs in
     (omega (arith, a, b, c), omega (arith, a, b, c))
 
-count_by-sum : (label : ℕ) (xs : List ℕ) → times label xs ≡ sum_by (λ n. cond (n == label) 1 0) xs
+count_by-sum : (label : ℕ) (xs : List ℕ) → times_in xs label ≡ sum_by (λ n. cond (label == n) 1 0) xs
 count_by-sum label xs = refl
 
-pub times-permuted : (label : ℕ) (xs ys : List ℕ) → IsPermutation xs ys → times label ys ≡ times label xs
-times-permuted label xs ys h = count_by-sum label ys ∙ (sum_by-IsPermutation (λ n. cond (n == label) 1 0) xs ys h ∙ sym (count_by-sum label xs))
+pub times-permuted : (label : ℕ) (xs ys : List ℕ) → IsPermutation xs ys → times_in ys label ≡ times_in xs label
+times-permuted label xs ys h = count_by-sum label ys ∙ (sum_by-IsPermutation (λ n. cond (label == n) 1 0) xs ys h ∙ sym (count_by-sum label xs))

@@ -4,7 +4,8 @@ use Rattle.std.proofs.Common.{inl, inr, ◌≡◌, ℕ, ltb, false, length, Opti
 use Rattle.std.specs.List.{AllByRecursion}
 use Rattle.std.proofs.lemmas.Bool.{cases_Bool, ltb-false, le-ltb}
 use Rattle.pd_reader.specs.declared.fault.DiagramFault.TheVariants as faults
-use Rattle.pd_reader.specs.Diagrams.{labels, times, least_unpaired, refusal, IsLabel, IsPaired}
+use Rattle.list_lemmas.specs.Times.{times_in}
+use Rattle.pd_reader.specs.Diagrams.{labels, least_unpaired, refusal, IsLabel, IsPaired}
 use Rattle.pd_reader.proofs.Least.{each_stands_twice, none_is_unpaired}
 
 pub labels-push : {I : Type 0} (labels_of : I → List ℕ) (xs : List I) (x : I) → labels labels_of (xs ++ x ∷ []) ≡ labels labels_of xs ++ labels_of x
@@ -12,7 +13,7 @@ labels-push labels_of [] x = append-nil (labels_of x)
 labels-push labels_of (y ∷ ys) x = ap (λ (ls : List ℕ). labels_of y ++ ls) (labels-push labels_of ys x) ∙ sym (append_assoc (labels_of y) (labels labels_of ys) (labels_of x))
 
 module _ {I : Type 0} (labels_of : I → List ℕ) where
-  no_label : (items : List I) (least : Option ℕ) → option_map (λ label. faults.Label label (times label (labels labels_of items))) least ≡ None → least ≡ None
+  no_label : (items : List I) (least : Option ℕ) → option_map (λ label. faults.Label label (times_in (labels labels_of items) label)) least ≡ None → least ≡ None
   no_label items None e = refl
   no_label items (Some label) e = absurd cc
 

@@ -6,10 +6,11 @@ use Rattle.std.proofs.Common.{inl, inr, ◌≡◌, ℕ, ◌==◌, eqb, Bool, tru
 use Rattle.std.proofs.lemmas.Bool.{cases_Bool, eqb-true, eq-eqb}
 use Rattle.std.proofs.lemmas.List.Elements.{filter-append}
 use Rattle.std.specs.List.{AllByRecursion}
-use Rattle.pd_reader.specs.Diagrams.{times, least, least_unpaired}
+use Rattle.list_lemmas.specs.Times.{times_in}
+use Rattle.pd_reader.specs.Diagrams.{least, least_unpaired}
 
 abbrev pub is_unpaired : List ℕ → ℕ → Bool
-is_unpaired ls label = not (times label ls == 2)
+is_unpaired ls label = not (times_in ls label == 2)
 
 abbrev pub least_among : List ℕ → List ℕ → Option ℕ
 least_among ls front = least (filter (is_unpaired ls) front)
@@ -50,22 +51,22 @@ none_left p (n ∷ ns) e =
       | inr not_is ↦ (not_is, none_left p ns (rw not_is at e))
     ]
 
-all_twice : (ls ns : List ℕ) → AllByRecursion (λ n. is_unpaired ls n ≡ false) ns → AllByRecursion (λ n. times n ls ≡ 2) ns
+all_twice : (ls ns : List ℕ) → AllByRecursion (λ n. is_unpaired ls n ≡ false) ns → AllByRecursion (λ n. times_in ls n ≡ 2) ns
 all_twice ls [] h = tt
-all_twice ls (n ∷ ns) h = (by_test (eqb (times n ls) 2) refl h.0, all_twice ls ns h.1)
+all_twice ls (n ∷ ns) h = (by_test (eqb (times_in ls n) 2) refl h.0, all_twice ls ns h.1)
   where
-    by_test : (b : Bool) → eqb (times n ls) 2 ≡ b → not b ≡ false → times n ls ≡ 2
-    by_test true e k = eqb-true (times n ls) 2 e
+    by_test : (b : Bool) → eqb (times_in ls n) 2 ≡ b → not b ≡ false → times_in ls n ≡ 2
+    by_test true e k = eqb-true (times_in ls n) 2 e
     by_test false e k = absurd cc
 
 -- no label is left out: each stands twice
-pub each_stands_twice : (ls : List ℕ) → least_unpaired ls ≡ None → AllByRecursion (λ n. times n ls ≡ 2) ls
+pub each_stands_twice : (ls : List ℕ) → least_unpaired ls ≡ None → AllByRecursion (λ n. times_in ls n ≡ 2) ls
 each_stands_twice ls e = all_twice ls ls (none_left (is_unpaired ls) ls (least-none (filter (is_unpaired ls) ls) e))
 
-none_kept : (ls ns : List ℕ) → AllByRecursion (λ n. times n ls ≡ 2) ns → filter (is_unpaired ls) ns ≡ []
+none_kept : (ls ns : List ℕ) → AllByRecursion (λ n. times_in ls n ≡ 2) ns → filter (is_unpaired ls) ns ≡ []
 none_kept ls [] h = refl
-none_kept ls (n ∷ ns) h = let even : is_unpaired ls n ≡ false = rw (eq-eqb (times n ls) 2 h.0) refl in rw even (none_kept ls ns h.1)
+none_kept ls (n ∷ ns) h = let even : is_unpaired ls n ≡ false = rw (eq-eqb (times_in ls n) 2 h.0) refl in rw even (none_kept ls ns h.1)
 
 -- WHERE EACH LABEL STANDS TWICE, NONE IS LEFT OUT
-pub none_is_unpaired : (ls : List ℕ) → AllByRecursion (λ n. times n ls ≡ 2) ls → least_unpaired ls ≡ None
+pub none_is_unpaired : (ls : List ℕ) → AllByRecursion (λ n. times_in ls n ≡ 2) ls → least_unpaired ls ≡ None
 none_is_unpaired ls h = ap least (none_kept ls ls h)

@@ -21,7 +21,8 @@ use Rattle.pd_reader.specs.declared.fault.Place.{Place}
 use Rattle.pd_reader.specs.declared.fault.Place.TheVariants as places
 use Rattle.pd_reader.specs.declared.fault.TextFault.{TextFault}
 use Rattle.pd_reader.specs.declared.fault.TextFault.TheVariants as faults
-use Rattle.pd_reader.specs.Diagrams.{labels, least_unpaired, refusal, times}
+use Rattle.list_lemmas.specs.Times.{times_in}
+use Rattle.pd_reader.specs.Diagrams.{labels, least_unpaired, refusal}
 use Rattle.pd_reader.specs.Faults.{at_place, against, cause, of_items, of_place}
 use Rattle.pd_reader.specs.Items.{item_labels, net_item_labels}
 use Rattle.pd_reader.specs.Laws.{ReadingsAreUnique, ReadingsExist, TextsAreUnique}
@@ -78,7 +79,7 @@ reason_kept false limit (Some l) count reasons.Memory e = absurd cc
 
 module _ {I : Type 0} (labels_of : I → List ℕ) where
   pub is_against : (v : List I) (first : DiagramFault) → refusal labels_of v ≡ Some first → cause (of_items first) ≡ against first
-  is_against v first e = reason_kept (ltb MOST_ITEMS (length v)) MOST_ITEMS (least_unpaired (labels labels_of v)) (λ l. times l (labels labels_of v)) first e
+  is_against v first e = reason_kept (ltb MOST_ITEMS (length v)) MOST_ITEMS (least_unpaired (labels labels_of v)) (λ l. times_in (labels labels_of v) l) first e
 
   -- what the check of the items gave
   pub gave_items : (v : List I) (fault : DiagramFault) → (fault ≡ reasons.Memory) ⊎ (refusal labels_of v ≡ Some fault) → Gave (cause (of_items fault)) (refusal labels_of v)

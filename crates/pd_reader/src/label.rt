@@ -3,7 +3,8 @@
 ghost use Rattle.std.specs.Prelude.{◌≡◌, ◌==◌, ◌+◌, ◌*◌, ◌<◌, ◌≤◌, ℕ, length, vec_len, IfOk, OnOk, option_map};
 ghost use Rattle.std.specs.List.{AllByRecursion};
 ghost use Rattle.std.specs.List.Sorted.{IsNonDecreasing};
-ghost use Rattle.pd_reader.specs.Diagrams.{times, least_unpaired, labels};
+ghost use Rattle.list_lemmas.specs.Times.{times_in};
+ghost use Rattle.pd_reader.specs.Diagrams.{least_unpaired, labels};
 
 use crate::item::Labelled;
 use std::alloc::{AllocError, Global};
@@ -12,7 +13,7 @@ use std::alloc::{AllocError, Global};
 /// labels takes little more than sorting them.
 fn times(labels: &[u32], label: u32) -> usize
     requires { IsNonDecreasing labels.now }
-    ensures { result ≡ times label labels.now }
+    ensures { result ≡ times_in labels.now label }
 {
     let below = labels.partition_point(|other| *other < label);
     let up_to = labels.partition_point(|other| *other <= label);
@@ -22,7 +23,7 @@ fn times(labels: &[u32], label: u32) -> usize
 /// The labels in ascending order.
 fn ascending(alloc: Global, labels: &[u32]) -> Result<Vec<u32>, AllocError>
     ensures ascends { IfOk result (λ found. IsNonDecreasing found.items) }
-    ensures same { IfOk result (λ found. (label : ℕ) → times label found.items ≡ times label labels.now) }
+    ensures same { IfOk result (λ found. (label : ℕ) → times_in found.items label ≡ times_in labels.now label) }
 {
     let mut found = Vec::from_slice(alloc, labels)?;
     found.sort_unstable();
@@ -31,7 +32,7 @@ fn ascending(alloc: Global, labels: &[u32]) -> Result<Vec<u32>, AllocError>
 
 /// The least label that doesn't stand twice in the list, and how often it stands there.
 pub(crate) fn unpaired(alloc: Global, labels: &[u32]) -> Result<Option<(u32, usize)>, AllocError>
-    ensures { IfOk result (λ found. found ≡ option_map (λ label. (label, times label labels.now)) (least_unpaired labels.now)) }
+    ensures { IfOk result (λ found. found ≡ option_map (λ label. (label, times_in labels.now label)) (least_unpaired labels.now)) }
 {
     let sorted = ascending(alloc, labels)?;
     let mut least: Option<u32> = None;

@@ -14,7 +14,8 @@ use Rattle.graph_parts.proofs.Numbered.{is_member-numbered}
 use Rattle.pd_reader.specs.declared.item.Item.{Item}
 use Rattle.pd_reader.specs.declared.item.Item.TheVariants as items
 use Rattle.pd_reader.specs.Items.{item_labels, HasItsSlots}
-use Rattle.pd_reader.specs.Diagrams.{labels, times, IsDiagram}
+use Rattle.list_lemmas.specs.Times.{times_in}
+use Rattle.pd_reader.specs.Diagrams.{labels, IsDiagram}
 use Rattle.planar_check.specs.Components.{strand_edges, greatest, component_least, is_least_of, least_labels, number_of, component_of}
 use Rattle.planar_check.proofs.Strands.{strands_inside, member_at_most}
 use Rattle.list_lemmas.proofs.Bools.{and_first}
@@ -27,47 +28,47 @@ count-more : (p : ℕ → Bool) (x : ℕ) (xs : List ℕ) → count_by p (x ∷ 
 count-more p x xs = sum_by-cons (λ y. once (p y)) x xs
 
 -- ---- each number that passes stands twice in a list, so at most half as many pass as stand there
-no_earlier : (l a n : ℕ) → l < a → count_by (λ x. l == x) (range_with_len a n) ≡ 0
+no_earlier : (l a n : ℕ) → l < a → count_by (λ x. x == l) (range_with_len a n) ≡ 0
 no_earlier l a zero h = refl
 no_earlier l a (suc n) h =
     let ih = no_earlier l (a + 1) n (omega (arith, h)) in
-    let more = count-more (λ x. l == x) a (range_with_len (a + 1) n) in
-    let none : once (l == a) ≡ 0 = grind (arith, nat_tests, h) in
+    let more = count-more (λ x. x == l) a (range_with_len (a + 1) n) in
+    let none : once (a == l) ≡ 0 = grind (arith, nat_tests, h) in
     omega (arith, more, none, ih)
 
-at_most_once : (l a n : ℕ) → count_by (λ x. l == x) (range_with_len a n) ≤ 1
+at_most_once : (l a n : ℕ) → count_by (λ x. x == l) (range_with_len a n) ≤ 1
 at_most_once l a zero = omega arith
 at_most_once l a (suc n) =
     let ih = at_most_once l (a + 1) n in
-    let more = count-more (λ x. l == x) a (range_with_len (a + 1) n) in
-    elim (cases_Bool (l == a)) [
-      | inl t ↦ (let none = no_earlier l (a + 1) n (let same = eqb-true l a t in omega (arith, same)) in let one : once (l == a) ≡ 1 = ap once t in omega (arith, more, none, one))
-      | inr t ↦ (let here : once (l == a) ≡ 0 = ap once t in omega (arith, more, here, ih))
+    let more = count-more (λ x. x == l) a (range_with_len (a + 1) n) in
+    elim (cases_Bool (a == l)) [
+      | inl t ↦ (let none = no_earlier l (a + 1) n (let same = eqb-true a l t in omega (arith, same)) in let one : once (a == l) ≡ 1 = ap once t in omega (arith, more, none, one))
+      | inr t ↦ (let here : once (a == l) ≡ 0 = ap once t in omega (arith, more, here, ih))
     ]
 
-sum-none : (xs : List ℕ) → sum_by (λ x. times x []) xs ≡ 0
+sum-none : (xs : List ℕ) → sum_by (λ x. times_in [] x) xs ≡ 0
 sum-none [] = refl
-sum-none (x ∷ xs) = let more = sum_by-cons (λ y. times y []) x xs in omega (arith, more, sum-none xs)
+sum-none (x ∷ xs) = let more = sum_by-cons (λ y. times_in [] y) x xs in omega (arith, more, sum-none xs)
 
-sum-cons : (l : ℕ) (ls xs : List ℕ) → sum_by (λ x. times x (l ∷ ls)) xs ≡ count_by (λ x. l == x) xs + sum_by (λ x. times x ls) xs
+sum-cons : (l : ℕ) (ls xs : List ℕ) → sum_by (λ x. times_in (l ∷ ls) x) xs ≡ count_by (λ x. x == l) xs + sum_by (λ x. times_in ls x) xs
 sum-cons l ls [] = refl
 sum-cons l ls (x ∷ xs) =
-    let whole = sum_by-cons (λ y. times y (l ∷ ls)) x xs in
-    let rest = sum_by-cons (λ y. times y ls) x xs in
-    let here = count-more (λ other. other == x) l ls in
-    let first = count-more (λ y. l == y) x xs in
+    let whole = sum_by-cons (λ y. times_in (l ∷ ls) y) x xs in
+    let rest = sum_by-cons (λ y. times_in ls y) x xs in
+    let here = count-more (λ other. x == other) l ls in
+    let first = count-more (λ y. y == l) x xs in
     omega (arith, whole, rest, here, first, sum-cons l ls xs)
 
-sum-le : (n : ℕ) (ls : List ℕ) → sum_by (λ x. times x ls) (range_with_len 0 n) ≤ length ls
+sum-le : (n : ℕ) (ls : List ℕ) → sum_by (λ x. times_in ls x) (range_with_len 0 n) ≤ length ls
 sum-le n [] = omega (arith, sum-none (range_with_len 0 n))
 sum-le n (l ∷ ls) = omega (arith, sum-cons l ls (range_with_len 0 n), at_most_once l 0 n, sum-le n ls)
 
-twice-le : (p : ℕ → Bool) (ls xs : List ℕ) → ((x : ℕ) → p x ≡ true → times x ls ≡ 2) → 2 * count_by p xs ≤ sum_by (λ x. times x ls) xs
+twice-le : (p : ℕ → Bool) (ls xs : List ℕ) → ((x : ℕ) → p x ≡ true → times_in ls x ≡ 2) → 2 * count_by p xs ≤ sum_by (λ x. times_in ls x) xs
 twice-le p ls [] h = omega arith
 twice-le p ls (x ∷ xs) h =
     let ih = twice-le p ls xs h in
     let more = count-more p x xs in
-    let whole = sum_by-cons (λ y. times y ls) x xs in
+    let whole = sum_by-cons (λ y. times_in ls y) x xs in
     elim (cases_Bool (p x)) [
       | inl t ↦ (let two = h x t in let one : once (p x) ≡ 1 = ap once t in omega (arith, ih, more, whole, two, one))
       | inr t ↦ (let none : once (p x) ≡ 0 = ap once t in omega (arith, ih, more, whole, none))
@@ -96,7 +97,7 @@ module _ (xs : List Item) (diagram : IsDiagram xs) where
   few_components =
       let n = greatest ls + 1 in
       let long = length-filter (is_least_of xs) (range_with_len 0 n) in
-      let half = twice-le (is_least_of xs) ls (range_with_len 0 n) (λ x t. at_member (λ label. times label ls ≡ 2) ls diagram.twice x (and_first (is_member ◌==◌ ls x) (component_least xs x == x) t)) in
+      let half = twice-le (is_least_of xs) ls (range_with_len 0 n) (λ x t. at_member (λ label. times_in ls label ≡ 2) ls diagram.twice x (and_first (is_member ◌==◌ ls x) (component_least xs x == x) t)) in
       omega (arith, long, half, sum-le n ls, labels_short xs diagram.sizes, diagram.few)
 
 -- ---- labels by least ones stay among the ends of edges

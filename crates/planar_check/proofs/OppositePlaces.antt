@@ -4,7 +4,6 @@ use Rattle.std.proofs.Common.{◌≡◌, ◌≢◌, ◌⊎◌, ℕ, zero, suc, �
 use Rattle.std.specs.List.{AllByRecursion, range_with_len}
 use Rattle.std.proofs.lemmas.Bool.{cases_Bool, cases_order, eqb-true, eqb-false}
 use Rattle.std.proofs.Math.ListN.{get_or-append}
-use Rattle.std.proofs.lemmas.List.Sums.{sum_by-append}
 use Rattle.graph_parts.proofs.Ends.{is_member-get_or}
 use Rattle.graph_parts.proofs.Rounds.{count_by-cons}
 use Rattle.graph_parts.proofs.Walks.{Contains-cases, Contains-later}
@@ -12,7 +11,9 @@ use Rattle.graph_parts.specs.Walks.{Joined, along, back}
 use Rattle.pd_reader.specs.declared.item.Item.{Item}
 use Rattle.pd_reader.specs.declared.item.Item.TheVariants as items
 use Rattle.pd_reader.specs.Items.{item_labels, HasItsSlots}
-use Rattle.pd_reader.specs.Diagrams.{labels, times, IsDiagram}
+use Rattle.list_lemmas.proofs.Times.{times_in-append}
+use Rattle.list_lemmas.specs.Times.{times_in}
+use Rattle.pd_reader.specs.Diagrams.{labels, IsDiagram}
 use Rattle.planar_check.specs.Places.{crossings_of, labels_by_place, slot_after, slots_after, other_place, is_across}
 use Rattle.planar_check.specs.Components.{strand_edges}
 use Rattle.planar_check.proofs.Crossings.{slot_lists-X, places_four, places_labels}
@@ -78,30 +79,27 @@ opposite_later p = omega arith
 abbrev loop_times : ℕ → List Item → ℕ
 loop_times x [] = 0
 loop_times x (items.X slots ∷ xs) = loop_times x xs
-loop_times x (items.Loop label ∷ xs) = (if label == x then 1 else 0) + loop_times x xs
+loop_times x (items.Loop label ∷ xs) = (if x == label then 1 else 0) + loop_times x xs
 
 abbrev once : Bool → ℕ
 once b = cond b 1 0
 
-times-append : (x : ℕ) (ks ls : List ℕ) → times x (ks ++ ls) ≡ times x ks + times x ls
-times-append x ks ls = sum_by-append (λ y. once (y == x)) ks ls
-
-split_times : (x : ℕ) (xs : List Item) → AllByRecursion HasItsSlots xs → times x (labels item_labels xs) ≡ times x (labels_by_place (crossings_of xs)) + 2 * loop_times x xs
+split_times : (x : ℕ) (xs : List Item) → AllByRecursion HasItsSlots xs → times_in (labels item_labels xs) x ≡ times_in (labels_by_place (crossings_of xs)) x + 2 * loop_times x xs
 split_times x [] h = refl
 split_times x (items.X slots ∷ xs) h =
-    let e = ap (λ (cs : List (List ℕ)). times x (labels_by_place cs)) (slot_lists-X slots xs h.0) in
-    omega (arith, e, times-append x slots (labels item_labels xs), times-append x slots (labels_by_place (crossings_of xs)), split_times x xs h.1)
+    let e = ap (λ (cs : List (List ℕ)). times_in (labels_by_place cs) x) (slot_lists-X slots xs h.0) in
+    omega (arith, e, times_in-append slots (labels item_labels xs) x, times_in-append slots (labels_by_place (crossings_of xs)) x, split_times x xs h.1)
 split_times x (items.Loop label ∷ xs) h =
-    let a = count_by-cons (λ y. y == x) label (label ∷ labels item_labels xs) in
-    let b = count_by-cons (λ y. y == x) label (labels item_labels xs) in
+    let a = count_by-cons (λ y. x == y) label (label ∷ labels item_labels xs) in
+    let b = count_by-cons (λ y. x == y) label (labels item_labels xs) in
     omega (arith, a, b, split_times x xs h.1)
 
-some_times : (ls : List ℕ) (p : ℕ) → p < length ls → 1 ≤ times (slice_index ls p) ls
+some_times : (ls : List ℕ) (p : ℕ) → p < length ls → 1 ≤ times_in ls (slice_index ls p)
 some_times [] p l = absurd (omega (arith, l))
 some_times (y ∷ ls) zero l =
     let one : once (y == y) ≡ 1 = ap once (eq-eqb y y refl) in
-    omega (arith, count_by-cons (λ z. z == y) y ls, one)
-some_times (y ∷ ls) (suc p) l = omega (arith, count_by-cons (λ z. z == slice_index ls p) y ls, some_times ls p (omega (arith, l)))
+    omega (arith, count_by-cons (λ z. y == z) y ls, one)
+some_times (y ∷ ls) (suc p) l = omega (arith, count_by-cons (λ z. slice_index ls p == z) y ls, some_times ls p (omega (arith, l)))
 
 -- ---- strands
 appended_here : (slots rest : List ℕ) (i : ℕ) → i < length slots → slice_index (slots ++ rest) i ≡ slice_index slots i
@@ -209,7 +207,7 @@ unfolding Between
 joined_opposite xs h p l = ⊎_elim (λ c. along c) (λ c. back (along c)) (place_strands xs h p l)
 
 -- ---- the other place
-module _ (ls : List ℕ) (p : ℕ) (within : p < length ls) (twice : times (slice_index ls p) ls ≡ 2) where
+module _ (ls : List ℕ) (p : ℕ) (within : p < length ls) (twice : times_in ls (slice_index ls p) ≡ 2) where
   -- the other place of the label
   record IsMate (q : ℕ) : Type 0 where
     below : q < length ls
@@ -272,10 +270,10 @@ module _ (xs : List Item) (diagram : IsDiagram xs) where
   abbrev ls : List ℕ
   ls = labels_by_place (crossings_of xs)
 
-  pub places_twice : (p : ℕ) → p < length ls → times (slice_index ls p) ls ≡ 2
+  pub places_twice : (p : ℕ) → p < length ls → times_in ls (slice_index ls p) ≡ 2
   places_twice p l =
       let x = slice_index ls p in
-      let two : times x (labels item_labels xs) ≡ 2 = at_member (λ label. times label (labels item_labels xs) ≡ 2) (labels item_labels xs) diagram.twice x (places_labels xs diagram.sizes x (is_member-get_or ls p l)) in
+      let two : times_in (labels item_labels xs) x ≡ 2 = at_member (λ label. times_in (labels item_labels xs) label ≡ 2) (labels item_labels xs) diagram.twice x (places_labels xs diagram.sizes x (is_member-get_or ls p l)) in
       omega (arith, split_times x xs diagram.sizes, some_times ls p l, two)
 
   -- what is across the edge from what is across the edge

@@ -3,7 +3,7 @@ use Rattle.std.proofs.Common.{◌≡◌, ◌≢◌, ◌⊎◌, ℕ, zero, suc, �
 use Rattle.std.specs.List.{range_with_len}
 use Rattle.std.proofs.lemmas.Bool.{cases_Bool, eqb-true, eqb-false, eq-eqb}
 use Rattle.graph_parts.proofs.Rounds.{count_by-cons}
-use Rattle.pd_reader.specs.Diagrams.{times}
+use Rattle.list_lemmas.specs.Times.{times_in}
 use Rattle.planar_check.specs.Places.{first_passing}
 
 abbrev once : Bool → ℕ
@@ -11,12 +11,12 @@ once b = cond b 1 0
 
 module _ (x : ℕ) where
   abbrev is_x : ℕ → Bool
-  is_x y = y == x
+  is_x y = x == y
 
-  nowhere : (ls : List ℕ) → times x ls ≡ 0 → (q : ℕ) → q < length ls → slice_index ls q ≢ x
+  nowhere : (ls : List ℕ) → times_in ls x ≡ 0 → (q : ℕ) → q < length ls → slice_index ls q ≢ x
   nowhere [] t q l e = absurd (omega (arith, l))
   nowhere (y ∷ ls) t zero l e =
-      let one : once (is_x y) ≡ 1 = ap once (eq-eqb y x e) in
+      let one : once (is_x y) ≡ 1 = ap once (eq-eqb x y (sym e)) in
       absurd (omega (arith, count_by-cons is_x y ls, one, t))
   nowhere (y ∷ ls) t (suc q) l e = nowhere ls (omega (arith, count_by-cons is_x y ls, t)) q (omega (arith, l)) e
 
@@ -27,15 +27,15 @@ module _ (x : ℕ) where
     is : slice_index ls place ≡ x
     only : (r : ℕ) → r < length ls → slice_index ls r ≡ x → r ≡ place
 
-  one_place : (ls : List ℕ) → times x ls ≡ 1 → IsOne ls
+  one_place : (ls : List ℕ) → times_in ls x ≡ 1 → IsOne ls
   one_place [] t = absurd (omega (arith, t))
   one_place (y ∷ ls) t = elim (cases_Bool (is_x y)) [
     | inl h ↦ (let one : once (is_x y) ≡ 1 = ap once h in
         let none = nowhere ls (omega (arith, count_by-cons is_x y ls, t, one)) in
-        record { place = 0; within = omega arith; is = eqb-true y x h; only = only_first y ls none })
+        record { place = 0; within = omega arith; is = sym (eqb-true x y h); only = only_first y ls none })
     | inr h ↦ (let no : once (is_x y) ≡ 0 = ap once h in
         let o = one_place ls (omega (arith, count_by-cons is_x y ls, t, no)) in
-        record { place = suc o.place; within = let w = o.within in omega (arith, w); is = o.is; only = only_later y ls (eqb-false y x h) o })
+        record { place = suc o.place; within = let w = o.within in omega (arith, w); is = o.is; only = only_later y ls (λ e. eqb-false x y h (sym e)) o })
   ]
     where
       only_first : (y : ℕ) (ls : List ℕ) → ((q : ℕ) → q < length ls → slice_index ls q ≢ x) → (r : ℕ) → r < length (y ∷ ls) → slice_index (y ∷ ls) r ≡ x → r ≡ 0
@@ -66,7 +66,7 @@ module _ (x : ℕ) where
   both_later y ls d t (suc r) l e =
       ⊎_elim (λ s. inl (ap (λ (m : ℕ). suc m) s)) (λ s. inr (ap (λ (m : ℕ). suc m) s)) (t.only r (omega (arith, l)) e)
 
-  pub two_places : (ls : List ℕ) → times x ls ≡ 2 → AreTwo ls
+  pub two_places : (ls : List ℕ) → times_in ls x ≡ 2 → AreTwo ls
   two_places [] t = absurd (omega (arith, t))
   two_places (y ∷ ls) t = elim (cases_Bool (is_x y)) [
     | inl h ↦ (let one : once (is_x y) ≡ 1 = ap once h in
@@ -77,9 +77,9 @@ module _ (x : ℕ) where
           first_within = omega arith;
           second_within = let w = o.within in omega (arith, w);
           apart = λ e. absurd (omega (arith, e));
-          first_is = eqb-true y x h;
+          first_is = sym (eqb-true x y h);
           second_is = o.is;
-          only = first_and_one y ls (eqb-true y x h) o;
+          only = first_and_one y ls (sym (eqb-true x y h)) o;
         })
     | inr h ↦ (let no : once (is_x y) ≡ 0 = ap once h in
         let w = two_places ls (omega (arith, count_by-cons is_x y ls, t, no)) in
@@ -91,7 +91,7 @@ module _ (x : ℕ) where
           apart = λ e. w.apart (omega (arith, e));
           first_is = w.first_is;
           second_is = w.second_is;
-          only = both_later y ls (eqb-false y x h) w;
+          only = both_later y ls (λ e. eqb-false x y h (sym e)) w;
         })
   ]
 

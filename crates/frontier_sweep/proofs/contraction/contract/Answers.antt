@@ -1,15 +1,16 @@
-use Rattle.std.proofs.Common.{◌+◌, ◌*◌, ◌^◌, ◌%◌, ◌<◌, ◌≤◌, ◌==◌, ◌≡◌, true, List, [], ◌∷◌, length, refl, sym, ap, subst, ◌∙◌}
+use Rattle.std.proofs.Common.{◌+◌, ◌*◌, ◌^◌, ◌%◌, ◌<◌, ◌≤◌, ◌==◌, ◌≡◌, true, List, [], ◌∷◌, length, refl, rules, sym, ap, subst, ◌∙◌, arith}
 use Rattle.std.specs.List.{range_with_len}
 use Rattle.std.specs.Map.{lookup}
 use Rattle.std.specs.Option.{unwrap_or}
 use Rattle.std.specs.Set.{is_member}
-use Rattle.state_sums.specs.Networks.{Node}
+use Rattle.state_sums.specs.Networks.{Node, WeightsBelow}
 use Rattle.state_sums.specs.StateSums.{value}
 use Rattle.frontier_laws.specs.Orders.{View}
 use Rattle.frontier_sweep.specs.LoopPowers.{LoopPowers}
 use Rattle.frontier_sweep.specs.Sweeps.{IsStopped}
-use Rattle.frontier_sweep.specs.Views.{IsView}
-use Rattle.frontier_sweep.proofs.Contractions.{IsContractedTo, first, shown, some_left, one_more, stopped, summed}
+use Rattle.frontier_laws.specs.Views.{IsView}
+use Rattle.frontier_sweep.proofs.Contractions.{IsContractedTo, first, shown, shown_rises, some_left, one_more, stopped, summed}
+use Rattle.frontier_sweep.proofs.SweepResults.{swept_by, stopped_by}
 use Rattle.frontier_sweep.proofs.contraction.contract.Goals as goal
 
 pub loop-taken-init : goal.loop-taken-init
@@ -20,12 +21,18 @@ loop-taken-init g c =
     let network = c.args.network.now in
     let same = ap (λ (powers : LoopPowers). powers.modulus) c.of-powers.ensures ∙ c.ring.ensures in
     let some = subst (λ m. 1 < m) (sym same) c.args.params.now.meets.modulus.0 in
-    subst (λ frontier. IsContractedTo answers m delta network 0 frontier c.new-own.result) (sym c.in-Ok.ensures)
-    (subst (λ count. IsContractedTo answers m delta network 0 record { left = range_with_len 0 (length network.nodes); names = []; table = (0, 1) ∷ [] } count) (sym c.new-own.ensures) (first answers m delta network some))
+    subst (IsContractedTo answers m delta network 0 c.in-Ok.frontier) (sym c.new-own.ensures) (first answers m delta network c.in-Ok.frontier some c.in-Ok.ensures)
 
-pub view-requires : goal.view-requires
-view-requires g c =
+pub view-requires-clause-view : goal.view-requires-clause-view
+view-requires-clause-view g c =
     shown (g.C.Choose.answers c.args.chooser.now) c.of-powers.result.modulus c.of-powers.result.delta c.args.network.now c.loop-taken.taken c.loop-taken.frontier c.loop-taken.own c.loop-taken.invariant
+
+pub view-requires-clause-rises : goal.view-requires-clause-rises
+view-requires-clause-rises g c =
+    let same = ap (λ (powers : LoopPowers). powers.modulus) c.of-powers.ensures ∙ c.ring.ensures in
+    let some : 0 < c.args.params.now.modulus = (let more = c.args.params.now.meets.modulus.0 in omega (arith, more)) in
+    shown_rises (g.C.Choose.answers c.args.chooser.now) c.of-powers.result.modulus c.of-powers.result.delta c.args.network.now c.loop-taken.taken c.loop-taken.frontier c.loop-taken.own c.loop-taken.invariant
+    c.nodes-taken-end.ensures.network (subst (λ m. WeightsBelow m c.args.network.now.nodes) (sym same) c.requires.weights) (subst (λ m. 0 < m) (sym same) some)
 
 pub name-place-requires-clause-view : goal.name-place-requires-clause-view
 name-place-requires-clause-view g c =
@@ -50,6 +57,16 @@ returns-in-Err-advance-clause-stopped g c =
     let small = subst (λ (nodes : List Node). c.loop-taken.taken < length nodes) c.nodes-taken-end.ensures.value c.loop-taken-test.true in
     subst (IsStopped answers network) (sym c.stopped_at.ensures)
     (stopped answers m delta network c.loop-taken.taken c.loop-taken.frontier c.loop-taken.own h c.name-place.result answer left small (c.loop-taken.taken + 1) refl c.in-Err-advance.reason limit)
+
+pub returns-in-Err-advance-clause-limit : goal.returns-in-Err-advance-clause-limit
+returns-in-Err-advance-clause-limit g c next is_next =
+    stopped_by next (g.C.Choose.answers c.args.chooser.now) c.args.network.now is_next c.stopped_at.result (returns-in-Err-advance-clause-stopped g c)
+
+pub returns-clause-swept : goal.returns-clause-swept
+returns-clause-swept g c = search rules
+
+pub returns-clause-turns : goal.returns-clause-turns
+returns-clause-turns g c next is_next = swept_by next (g.C.Choose.answers c.args.chooser.now) c.args.network.now is_next _ _ (returns-clause-swept g c)
 
 pub loop-taken-preserved : goal.loop-taken-preserved
 loop-taken-preserved g c =

@@ -1,4 +1,4 @@
-use Rattle.std.proofs.Common.{ℕ, ◌<◌, ◌≤◌, ◌+◌, ◌*◌, List, [], ◌∷◌, ◌++◌, length, slice_index, sym, ap, subst, ◌∙◌}
+use Rattle.std.proofs.Common.{◌≡◌, ◌==◌, false, ℕ, ◌<◌, ◌≤◌, ◌+◌, ◌*◌, List, [], ◌∷◌, ◌++◌, length, slice_index, sym, ap, subst, ◌∙◌}
 use Rattle.std.specs.List.{remove}
 use Rattle.std.proofs.lemmas.Result.{err_from_is_err_and}
 use Rattle.state_sums.specs.Networks.{Node}
@@ -6,8 +6,10 @@ use Rattle.frontier_laws.specs.Tables.{add_all, contributions}
 use Rattle.std.specs.Result.{IfErr}
 use Rattle.frontier_sweep.specs.Frontiers.{Frontier, IsFrontier, IsLimitAfter}
 use Rattle.frontier_sweep.specs.NotGluedNodes.{Explains}
+use Rattle.std.specs.Set.{is_member}
+use Rattle.frontier_sweep.specs.Rises.{Rises, IsRises, IsAfter}
 use Rattle.frontier_sweep.specs.Steps.{IsReady, IsSeamOf}
-use Rattle.frontier_sweep.proofs.FrontierLemmas.{place_in_network, taking, ready, limit, next_frontier}
+use Rattle.frontier_sweep.proofs.FrontierLemmas.{place_in_network, taking, ready, limit, after_it, next_frontier}
 use Rattle.frontier_sweep.proofs.frontier.Frontier.advance.Goals as goal
 
 pub bounds-nodes-place : goal.bounds-nodes-place
@@ -64,8 +66,25 @@ returns-clause-after c order h =
     let next_is = c.swap.ensures.x_after ∙ glued.added ∙ ap (λ (table : List (ℕ × ℕ)). add_all m [] (contributions delta c.in_ok-seam.seam node.terms table)) table in
     let few = subst (λ (table : List (ℕ × ℕ)). length table ≤ 262144) (sym c.swap.ensures.x_after) glued.few in
     let turns = glued.turns ∙ ap (λ (table : List (ℕ × ℕ)). c.args.turns.now + length table * length node.terms) table in
-    let after = next_frontier m delta network order c.args.self.now c.args.turns.now h c.args.place node taken c.in_ok-seam.seam seam glued.node at in_range here next next_is few c.glue_node.new.turns turns in
-    let left_after = c.remove.ensures.items ∙ ap (λ (left : List ℕ). remove left at) left in
     let names_after = c.into_names-self-inside.ensures in
-    subst (λ (left : List ℕ). IsFrontier m delta network (order ++ c.args.place ∷ []) record { left = left; names = c.into_names-self-inside.result.items; table = next } c.glue_node.new.turns) (sym left_after)
-    (subst (λ (names : List ℕ). IsFrontier m delta network (order ++ c.args.place ∷ []) record { left = remove c.args.self.now.left at; names = names; table = next } c.glue_node.new.turns) (sym names_after) after)
+    let open_now = c.as_slice.ensures.value in
+    let ends = c.ends.ensures.value in
+    let new_left = c.remove.ensures.items ∙ ap (λ (left : List ℕ). remove left at) left in
+    let after_node = after_it m delta network order c.args.self.now c.args.turns.now h c.args.place node taken c.in_ok-seam.seam seam at in_range here in
+    let shown : IsAfter network.nodes c.args.place c.ends.result.now c.as_slice.result.now c.args.self.now.names c.args.self.now.left (remove c.args.self.now.left at) =
+    subst (λ (ends : List ℕ). IsAfter network.nodes c.args.place ends c.as_slice.result.now c.args.self.now.names c.args.self.now.left (remove c.args.self.now.left at)) (sym ends)
+    (subst (λ (names : List ℕ). IsAfter network.nodes c.args.place node.ends names c.args.self.now.names c.args.self.now.left (remove c.args.self.now.left at)) (sym (open_now ∙ names_after)) after_node) in
+    let was = subst (IsRises network c.args.self.now.left c.args.self.now.names) (ap (λ (frontier : Frontier). frontier.rises) (sym c.self.view_is)) h.rises_are in
+    let rises : IsRises network (remove c.args.self.now.left at) c.as_slice.result.now c.refresh.new.self = c.refresh.ensures c.args.self.now.names c.args.self.now.left (remove c.args.self.now.left at) was shown in
+    let rises_now = subst (λ (names : List ℕ). IsRises network (remove c.args.self.now.left at) names c.refresh.new.self) open_now rises in
+    next_frontier m delta network order c.args.self.now c.args.turns.now h c.args.place node taken c.in_ok-seam.seam seam glued.node at in_range here
+    _ _ new_left names_after _ (subst (λ (left : List ℕ). IsRises network left c.into_names-self-inside.result.items c.refresh.new.self) (sym new_left) rises_now) next next_is few c.glue_node.new.turns turns
+
+kept_rises : (c : goal.After-ends) → IsRises c.args.network.now c.args.self.now.left c.args.self.now.names c.self.inside.rises
+kept_rises c = subst (IsRises c.args.network.now c.args.self.now.left c.args.self.now.names) (ap (λ (frontier : Frontier). frontier.rises) (sym c.self.view_is)) (c.requires.frontier.1).rises_are
+
+pub refresh-requires-clause-index : goal.refresh-requires-clause-index
+refresh-requires-clause-index c = (kept_rises c).index
+
+pub refresh-requires-clause-whole : goal.refresh-requires-clause-whole
+refresh-requires-clause-whole c = (kept_rises c).are.whole
