@@ -48,6 +48,7 @@ first answers m delta network frontier some is = record {
     left_are = is.left_are ∙ sym (left_none (length network.nodes));
     names_are = is.names_are;
     rises_are = subst (λ names. IsRises network frontier.left names frontier.rises) (sym is.names_are) (is.rises_are frontier.left);
+    groups_are = is.groups_are;
     table_of = subst (IsTableOf m delta []) (sym is.table_is) (table_of_none m delta);
     below = subst (All (λ entry. entry.1 < m)) (sym is.table_is) (one_below m some);
     count_is = refl;

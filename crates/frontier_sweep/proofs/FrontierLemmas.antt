@@ -249,7 +249,7 @@ module _ (m delta : ℕ) (network : Network) (order : List ℕ) (frontier : Fron
   pub next_frontier : (seam : Seam) → IsSeamOf frontier.names node.ends seam → IsShortNode node → (at : ℕ) → at < length frontier.left → slice_index frontier.left at ≡ place →
       (left names : List ℕ) → left ≡ remove frontier.left at → names ≡ seam.outer → (rises : Rises) → IsRises network left names rises →
       (table : List (ℕ × ℕ)) → table ≡ add_all m [] (contributions delta seam node.terms frontier.table) → length table ≤ 262144 → (after : ℕ) → after ≡ count + length frontier.table * length node.terms →
-      IsFrontier m delta network (order ++ place ∷ []) record { left = left; names = names; table = table; rises = rises } after
+      IsFrontier m delta network (order ++ place ∷ []) record { left = left; names = names; table = table; rises = rises; groups = frontier.groups } after
   next_frontier seam is short at in_range here left names left_is names_is rises rises_are table table_is few_after after after_is =
       let nodes = taken network.nodes order in
       let glued = ap (λ seam. add_all m [] (contributions delta seam node.terms frontier.table)) (seam_is seam is) in
@@ -264,6 +264,7 @@ module _ (m delta : ℕ) (network : Network) (order : List ℕ) (frontier : Fron
         left_are = left_is ∙ next_left at in_range here;
         names_are = names_is ∙ ap (λ (seam : Seam). seam.outer) (seam_is seam is) ∙ ap open_names (sym more);
         rises_are = rises_are;
+        groups_are = h.groups_are;
         table_of = subst (λ nodes. IsTableOf m delta nodes table) (sym more) table_of;
         below = subst (All (λ entry. entry.1 < m)) (sym table_is) (add_all-below m (contributions delta seam node.terms frontier.table) [] t.some (All-nil (λ (entry : ℕ × ℕ). entry.1 < m)));
         count_is = after_is ∙ ap (λ n. n + length frontier.table * length node.terms) h.count_is ∙ ap (λ n. turns network order + n * length node.terms) table_long ∙ sym same;

@@ -17,33 +17,33 @@ use Rattle.frontier_laws.specs.Orders.{node_at}
 use Rattle.frontier_laws.specs.Rises.{rise}
 use Rattle.frontier_laws.proofs.Rises.{rise-alike}
 use Rattle.graph_parts.proofs.Ends.{is_member-get_or}
-use Rattle.frontier_sweep.specs.Rises.{end_key, IsEndsIndex, IsRight, AreRises, IsAfter}
+use Rattle.frontier_sweep.specs.Rises.{place_key, IsEndsIndex, IsRight, AreRises, IsAfter}
 
 -- The numbers of the ends of the first so many nodes are there, and each is of one of the nodes.
 pub record HasEnds (nodes : List Node) (done : ℕ) (index : List ℕ) : Type 0 where
-  pub has : (place name : ℕ) → place < done → is_member ◌==◌ (node_at nodes place).ends name ≡ true → is_member ◌==◌ index (end_key name place) ≡ true
+  pub has : (place name : ℕ) → place < done → is_member ◌==◌ (node_at nodes place).ends name ≡ true → is_member ◌==◌ index (place_key name place) ≡ true
   pub below : All (λ key. key % 65536 < length nodes) index
 
-end_key-place : (name place : ℕ) → place < 65536 → end_key name place % 65536 ≡ place
-end_key-place name place small = omega (arith, small)
+place_key-place : (name place : ℕ) → place < 65536 → place_key name place % 65536 ≡ place
+place_key-place name place small = omega (arith, small)
 
 -- ONE NODE MORE
 pub ends_more : (nodes : List Node) (done : ℕ) (index : List ℕ) → HasEnds nodes done index → length nodes ≤ 65536 → done < length nodes → (ends next : List ℕ) → ends ≡ (node_at nodes done).ends →
-    next ≡ index ++ map (λ name. end_key name done) ends → HasEnds nodes (done + 1) next
+    next ≡ index ++ map (λ name. place_key name done) ends → HasEnds nodes (done + 1) next
 ends_more nodes done index h few small ends next ends_are next_is = record {
   has = λ place name less member.
-      ap (λ keys. is_member ◌==◌ keys (end_key name place)) next_is
-      ∙ is_member-append index (map (λ name. end_key name done) ends) (end_key name place)
+      ap (λ keys. is_member ◌==◌ keys (place_key name place)) next_is
+      ∙ is_member-append index (map (λ name. place_key name done) ends) (place_key name place)
       ∙ ⊎_elim
-      (λ (before : place < done). or_left (is_member ◌==◌ index (end_key name place)) (is_member ◌==◌ (map (λ name. end_key name done) ends) (end_key name place)) (h.has place name before member))
+      (λ (before : place < done). or_left (is_member ◌==◌ index (place_key name place)) (is_member ◌==◌ (map (λ name. place_key name done) ends) (place_key name place)) (h.has place name before member))
       (λ (last : place ≡ done).
       let in_ends : is_member ◌==◌ ends name ≡ true = ap (λ ends. is_member ◌==◌ ends name) (ends_are ∙ ap (λ place. (node_at nodes place).ends) (sym last)) ∙ member in
-      or_right (is_member ◌==◌ index (end_key name place)) (is_member ◌==◌ (map (λ name. end_key name done) ends) (end_key name place))
-      (ap (λ place. is_member ◌==◌ (map (λ name. end_key name done) ends) (end_key name place)) last ∙ is_member-map (λ name. end_key name done) ends name in_ends))
+      or_right (is_member ◌==◌ index (place_key name place)) (is_member ◌==◌ (map (λ name. place_key name done) ends) (place_key name place))
+      (ap (λ place. is_member ◌==◌ (map (λ name. place_key name done) ends) (place_key name place)) last ∙ is_member-map (λ name. place_key name done) ends name in_ends))
       (let split : (place < done) ⊎ (place ≡ done) = grind (arith, less) in split);
   below = subst (All (λ key. key % 65536 < length nodes)) (sym next_is)
-      (All-append (λ key. key % 65536 < length nodes) index (map (λ name. end_key name done) ends) h.below
-      (All-map (λ key. key % 65536 < length nodes) (λ name. end_key name done) ends (λ k d within. let at = end_key-place (get_or ends k d) done (omega (arith, few, small)) in omega (arith, at, small))));
+      (All-append (λ key. key % 65536 < length nodes) index (map (λ name. place_key name done) ends) h.below
+      (All-map (λ key. key % 65536 < length nodes) (λ name. place_key name done) ends (λ k d within. let at = place_key-place (get_or ends k d) done (omega (arith, few, small)) in omega (arith, at, small))));
 }
 
 -- SORTED, THEY ARE THE INDEX
@@ -51,7 +51,7 @@ pub index_sorted : (nodes : List Node) (done : ℕ) (keys sorted : List ℕ) →
 index_sorted nodes done keys sorted h all few permuted increasing = record {
   few = few;
   increasing = increasing;
-  has = λ place name small member. sym (list_any-IsPermutation (λ other. end_key name place == other) keys sorted permuted) ∙ h.has place name (omega (arith, small, all)) member;
+  has = λ place name small member. sym (list_any-IsPermutation (λ other. place_key name place == other) keys sorted permuted) ∙ h.has place name (omega (arith, small, all)) member;
   below = All-permutation (λ key. key % 65536 < length nodes) keys sorted permuted h.below;
 }
 
@@ -107,7 +107,7 @@ module _ (nodes : List Node) (names index before : List ℕ) (taken low at : ℕ
       (place : ℕ) → place < length nodes → place ≢ taken → is_member ◌==◌ (node_at nodes place).ends end ≡ true → IsRight nodes names each place
   refreshed_all is end low_before behind place small apart member =
       let few = is.few in
-      let found = member_at index (end_key end place) (is.has place end small member) in
+      let found = member_at index (place_key end place) (is.has place end small member) in
       let k = found.0 in
       let here : slice_index index k ≡ end * 65536 + place = found.2 in
       let within = found.1 in

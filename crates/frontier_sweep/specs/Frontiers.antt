@@ -1,6 +1,6 @@
 -- What a contraction keeps between two steps.
 --
---     Frontier                                      the places left, the open names, the table of their pairings, and the rises
+--     Frontier                                      the places left, the open names, the table of their pairings, the rises, and the groups
 --     IsFirst network frontier                      the frontier before a node is taken
 --     IsFrontier m delta network order frontier turns
 --                                                   the frontier, and the turns so far, when the nodes of the order are taken
@@ -11,16 +11,19 @@ use Rattle.state_sums.specs.Networks.{Network}
 use Rattle.frontier_laws.specs.Orders.{taken, left_after, open_names, IsPartOrder}
 use Rattle.frontier_laws.specs.Tables.{IsTableOf}
 use Rattle.frontier_laws.specs.Turns.{turns, IsWithin, IsWideAt, IsFullAt}
+use Rattle.frontier_sweep.specs.Groups.{IsGroupIndex}
 use Rattle.frontier_sweep.specs.Rises.{Rises, IsRises}
 use Rattle.frontier_sweep.specs.declared.fault.NotGlued.{NotGlued}
 use Rattle.frontier_sweep.specs.declared.fault.NotGlued.TheVariants.{Wide, Full, Memory}
 
--- The places left, the open names, the table of their pairings, and by how much the number of open names rises at each node.
+-- The places left, the open names, the table of their pairings, by how much the number of open names rises at each node, and where each
+-- group stands.
 pub record Frontier : Type 0 where
   pub left : List ℕ
   pub names : List ℕ
   pub table : List (ℕ × ℕ)
   pub rises : Rises
+  pub groups : List ℕ
 
 -- Before a node is taken all are left, no name is open, and the pairing of no points has the coefficient 1.
 pub record IsFirst (network : Network) (frontier : Frontier) : Type 0 where
@@ -28,6 +31,7 @@ pub record IsFirst (network : Network) (frontier : Frontier) : Type 0 where
   pub names_are : frontier.names ≡ []
   pub table_is : frontier.table ≡ (0, 1) ∷ []
   pub rises_are : (left : List ℕ) → IsRises network left [] frontier.rises
+  pub groups_are : IsGroupIndex network.nodes frontier.groups
 
 -- The nodes of the order are taken, and no limit was met; 2^38 is the most that a step adds to the turns.
 pub record IsFrontier (m delta : ℕ) (network : Network) (order : List ℕ) (frontier : Frontier) (count : ℕ) : Type 0 where
@@ -36,6 +40,7 @@ pub record IsFrontier (m delta : ℕ) (network : Network) (order : List ℕ) (fr
   pub left_are : frontier.left ≡ left_after (length network.nodes) order
   pub names_are : frontier.names ≡ open_names (taken network.nodes order)
   pub rises_are : IsRises network frontier.left frontier.names frontier.rises
+  pub groups_are : IsGroupIndex network.nodes frontier.groups
   pub table_of : IsTableOf m delta (taken network.nodes order) frontier.table
   pub below : All (λ entry. entry.1 < m) frontier.table
   pub count_is : count ≡ turns network order

@@ -1,5 +1,6 @@
 pub mod Choices
 pub mod Rises
+pub mod Groups
 pub mod Next
 pub mod NextLeft
 pub mod LoopPowers

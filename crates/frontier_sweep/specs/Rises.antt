@@ -1,7 +1,7 @@
 -- By how much the number of open names rises at each node, kept from step to step, and where each name stands in the network. (This
 -- project's own.)
 --
---     end_key name place             the number that stands for a name at the node of that place
+--     place_key number place         the number that stands for a name or a group at the node of that place
 --     IsEndsIndex nodes index        the numbers of all ends, increasing
 --     IsRight nodes names each place the rise that is kept at that place is the node's, where these names are open
 --     AreRises nodes left names each so it is at each place left
@@ -18,15 +18,15 @@ use Rattle.arc_pairing.specs.declared.limits.TheConstants.{MOST_NODES, MOST_POIN
 use Rattle.frontier_laws.specs.Orders.{View, node_at, open_with}
 use Rattle.frontier_laws.specs.Rises.{rise}
 
--- The name times 65,536, plus the place.
-abbrev pub end_key : ℕ → ℕ → ℕ
-end_key name place = name * MOST_NODES + place
+-- The number times 65,536, plus the place.
+abbrev pub place_key : ℕ → ℕ → ℕ
+place_key number place = number * MOST_NODES + place
 
 -- The numbers of all ends, increasing.
 pub record IsEndsIndex (nodes : List Node) (index : List ℕ) : Type 0 where
   pub few : length nodes ≤ MOST_NODES
   pub increasing : IsNonDecreasing index
-  pub has : (place name : ℕ) → place < length nodes → is_member ◌==◌ (node_at nodes place).ends name ≡ true → is_member ◌==◌ index (end_key name place) ≡ true
+  pub has : (place name : ℕ) → place < length nodes → is_member ◌==◌ (node_at nodes place).ends name ≡ true → is_member ◌==◌ index (place_key name place) ≡ true
   pub below : All (λ key. key % MOST_NODES < length nodes) index
 
 abbrev pub IsRight : List Node → List ℕ → List ℕ → ℕ → Type 0

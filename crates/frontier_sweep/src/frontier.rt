@@ -8,9 +8,11 @@ ghost use Rattle.std.specs.Set.{is_member};
 ghost use Rattle.state_sums.specs.Networks.{WeightsBelow};
 ghost use Rattle.frontier_laws.specs.Views.{IsView};
 ghost use Rattle.frontier_sweep.specs.Rises.{HasRises};
+ghost use Rattle.frontier_sweep.specs.Groups.{IsGroupIndex};
 ghost use Rattle.frontier_sweep.specs.Frontiers.{IsFirst, IsFrontier, IsLimitAfter};
 
 use crate::fault::NotGlued;
+use crate::groups::group_index;
 use crate::powers::LoopPowers;
 use crate::rises::Rises;
 use crate::step::glue_node;
@@ -23,10 +25,8 @@ use std::marker::Model;
 use std::mem;
 
 /// The places of the nodes that are left, increasing, the open names, increasing, the table of the pairings of
-/// these, and by how much their number rises at each node; beside it the table of the next step, so that none
-/// is made anew.
-///
-/// Contracts see the first four.
+/// these, by how much their number rises at each node, and where each group stands; beside it the table of the
+/// next step, so that none is made anew, and which no contract sees.
 #[derive(Drop)]
 pub(crate) struct Frontier {
     left: Vec<u32>,
@@ -34,6 +34,7 @@ pub(crate) struct Frontier {
     table: Table,
     next: Table,
     rises: Rises,
+    groups: Vec<u64>,
 }
 
 impl Model for Frontier {
@@ -41,7 +42,7 @@ impl Model for Frontier {
 
     ghost Value = { Frontiers.Frontier };
 
-    ghost view = { λ frontier. record { left = frontier.left.items; names = frontier.names.items; table = frontier.table; rises = frontier.rises } };
+    ghost view = { λ frontier. record { left = frontier.left.items; names = frontier.names.items; table = frontier.table; rises = frontier.rises; groups = frontier.groups.items } };
 }
 
 /// The places from 0 on, so many.
@@ -78,12 +79,14 @@ impl Frontier {
         let left = places(alloc, network.nodes().len())?;
         let table = Table::of_none(alloc)?;
         let rises = Rises::start(alloc, network)?;
+        let groups = group_index(alloc, network)?;
         Ok(Frontier {
             left,
             names: ArrayVec::new(),
             table,
             next: Table::new(alloc),
             rises,
+            groups,
         })
     }
 
@@ -91,6 +94,7 @@ impl Frontier {
     pub(crate) fn view<'a>(&'a self, network: &'a Network) -> View<'a>
         requires view { IsView record { network = network.now; left = self.now.left; names = self.now.names } }
         requires rises { HasRises record { network = network.now; left = self.now.left; names = self.now.names } self.now.rises.each }
+        requires groups { IsGroupIndex network.now.nodes self.now.groups }
         ensures { result ≡ record { network = network.now; left = self.now.left; names = self.now.names } }
     {
         View::new(
@@ -98,6 +102,7 @@ impl Frontier {
             &self.left,
             self.names.as_slice(),
             self.rises.as_slice(),
+            &self.groups,
         )
     }
 

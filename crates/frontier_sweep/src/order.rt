@@ -9,6 +9,7 @@ ghost use Rattle.frontier_sweep.specs.NextLeft.{next_of-left};
 ghost use Rattle.frontier_laws.specs.Orders.{node_at, first_least, listed_of, greedy_of, given_of, open_with, rank_in};
 
 use crate::chooser::Choose;
+use crate::groups::{first_of_all, first_of_group};
 use crate::view::View;
 
 /// The first of the places at which the measure is least. There is a place.
@@ -28,31 +29,6 @@ fn first_least<F: Fn(u32) -> u64>(places: &[u32], measure: F) -> u32
         }
     }
     best
-}
-
-/// The first place of the group in the list.
-fn place_of(groups: &[u32], group: u32) -> Option<usize>
-    ensures { result ≡ position (λ other. group == other) groups.now }
-{
-    groups.iter().position(|other| group == *other)
-}
-
-/// Where a group stands in a list of groups; those that are not in it come behind, increasing.
-fn rank_in(groups: &[u32], group: u32) -> u64
-    ensures { result ≡ rank_in groups.now group }
-{
-    match place_of(groups, group) {
-        Some(place) => place as u64,
-        None => groups.len() as u64 + u64::from(group),
-    }
-}
-
-/// Where the group of the node at that place stands.
-fn rank_of(view: &View, order: &[u32], place: u32) -> u64
-    requires { place < length view.now.network.nodes }
-    ensures { result ≡ rank_in order.now (node_at view.now.network.nodes place).group }
-{
-    rank_in(order, view.network().nodes()[place as usize].group())
 }
 
 /// The order in which the nodes are listed: the least place left, from 0 on. A node is left. It takes no
@@ -84,7 +60,12 @@ pub fn given_next(view: &View, order: &[u32]) -> u32
     ensures next { result ≡ given_of order.now view.now }
     ensures left { is_member ◌==◌ view.now.left result ≡ true }
 {
-    first_least(view.left(), |place| rank_of(view, order, place))
+    for group in order {
+        if let Some(place) = first_of_group(view, *group) {
+            return place;
+        }
+    }
+    first_of_all(view)
 }
 
 /// One of the three orders, as what chooses (this project's own).

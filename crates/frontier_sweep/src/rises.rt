@@ -8,7 +8,8 @@ ghost use Rattle.frontier_laws.specs.Orders.{node_at};
 ghost use Rattle.frontier_laws.specs.Rises.{opening, closing, rise};
 ghost use Rattle.frontier_sweep.specs.Rises.{IsEndsIndex, IsRight, AreRises, IsAfter, IsRises};
 
-use crate::ends_index::{end_key, ends_index, first_from};
+use crate::ends_index::ends_index;
+use crate::place_key::{first_from, place_key};
 use arc_pairing::{MOST_NODES, MOST_POINTS, Network};
 use list_lemmas::count_of;
 use std::alloc::{AllocError, Global};
@@ -56,7 +57,7 @@ fn refresh_at(
     ensures right { (place : ℕ) → place < length network.now.nodes → place ≢ taken → is_member ◌==◌ (node_at network.now.nodes place).ends end ≡ true → IsRight network.now.nodes names.now each.new place }
     ensures stays { (place : ℕ) → place < length network.now.nodes → IsRight network.now.nodes names.now each.old place → IsRight network.now.nodes names.now each.new place }
 {
-    let first = end_key(end, 0);
+    let first = place_key(end, 0);
     let low = first_from(index, first);
     for at in low..index.len() {
         let key = index[at];

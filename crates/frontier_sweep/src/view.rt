@@ -3,6 +3,7 @@
 ghost use Rattle.std.specs.Prelude.{◌≡◌, length};
 ghost use Rattle.frontier_laws.specs.Views.{IsView};
 ghost use Rattle.frontier_sweep.specs.Rises.{HasRises};
+ghost use Rattle.frontier_sweep.specs.Groups.{IsGroupIndex};
 
 use arc_pairing::Network;
 use std::marker::Model;
@@ -12,26 +13,29 @@ use std::marker::Model;
 ///
 /// Contracts see a view as these three values. Its type keeps that each node left is below the number
 /// of nodes, and that its names are those that stand once in the nodes that aren't left; and beside them how
-/// many names more or fewer are open when each node left is taken.
+/// many names more or fewer are open when each node left is taken, and where each group stands.
 #[derive(Drop)]
 pub struct View<'a> {
     network: &'a Network,
     left: &'a [u32],
     names: &'a [u32],
     rises: &'a [u8],
+    groups: &'a [u64],
 }
 
 impl<'a> Model for View<'a> {
     ghost use Rattle.frontier_laws.specs.Orders;
     ghost use Rattle.frontier_laws.specs.Views.{IsView};
     ghost use Rattle.frontier_sweep.specs.Rises.{HasRises};
+    ghost use Rattle.frontier_sweep.specs.Groups.{IsGroupIndex};
 
     ghost Value = { Orders.View };
 
     ghost view = { λ view. record { network = view.network.now; left = view.left.now; names = view.names.now } };
 
     ghost invariant = { λ view. IsView record { network = view.network.now; left = view.left.now; names = view.names.now }
-        × HasRises record { network = view.network.now; left = view.left.now; names = view.names.now } view.rises.now };
+        × HasRises record { network = view.network.now; left = view.left.now; names = view.names.now } view.rises.now
+        × IsGroupIndex view.network.now.nodes view.groups.now };
 }
 
 impl<'a> View<'a> {
@@ -41,9 +45,11 @@ impl<'a> View<'a> {
         left: &'a [u32],
         names: &'a [u32],
         rises: &'a [u8],
+        groups: &'a [u64],
     ) -> View<'a>
         requires view { IsView record { network = network.now; left = left.now; names = names.now } }
         requires rises { HasRises record { network = network.now; left = left.now; names = names.now } rises.now }
+        requires groups { IsGroupIndex network.now.nodes groups.now }
         ensures { result ≡ record { network = network.now; left = left.now; names = names.now } }
     {
         View {
@@ -51,6 +57,7 @@ impl<'a> View<'a> {
             left,
             names,
             rises,
+            groups,
         }
     }
 
@@ -83,5 +90,13 @@ impl<'a> View<'a> {
         ensures view { IsView self.now }
     {
         self.rises
+    }
+
+    /// For each node the number of its group and its place, increasing.
+    pub(crate) fn groups(&self) -> &[u64]
+        ensures value { IsGroupIndex self.now.network.nodes result.now }
+        ensures view { IsView self.now }
+    {
+        self.groups
     }
 }

@@ -34,6 +34,9 @@ view-requires-clause-rises g c =
     shown_rises (g.C.Choose.answers c.args.chooser.now) c.of-powers.result.modulus c.of-powers.result.delta c.args.network.now c.loop-taken.taken c.loop-taken.frontier c.loop-taken.own c.loop-taken.invariant
     c.nodes-taken-end.ensures.network (subst (λ m. WeightsBelow m c.args.network.now.nodes) (sym same) c.requires.weights) (subst (λ m. 0 < m) (sym same) some)
 
+pub view-requires-clause-groups : goal.view-requires-clause-groups
+view-requires-clause-groups g c = c.loop-taken.invariant.is.groups_are
+
 pub name-place-requires-clause-view : goal.name-place-requires-clause-view
 name-place-requires-clause-view g c =
     subst IsView (sym c.view.ensures) (shown (g.C.Choose.answers c.args.chooser.now) c.of-powers.result.modulus c.of-powers.result.delta c.args.network.now c.loop-taken.taken c.loop-taken.frontier c.loop-taken.own c.loop-taken.invariant)

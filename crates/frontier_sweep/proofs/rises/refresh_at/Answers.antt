@@ -34,7 +34,7 @@ loop-at-preserved c =
 
 pub returns-after-loop-at-clause-right : goal.returns-after-loop-at-clause-right
 returns-after-loop-at-clause-right c =
-    let first = c.end_key-first.ensures in
+    let first = c.place_key-first.ensures in
     let end = c.loop-at-test.false in
     refreshed_all c.args.network.now.nodes c.args.names.now c.args.index.now c.args.each.now c.args.taken c.first_from-low.result c.loop-at.at c.loop-at.each c.loop-at.invariant c.requires.index c.args.end
     (λ k less. let below = c.first_from-low.ensures.before k less in omega (arith, below, first))
@@ -42,7 +42,7 @@ returns-after-loop-at-clause-right c =
 
 pub returns-then-key-first-clause-right : goal.returns-then-key-first-clause-right
 returns-then-key-first-clause-right c =
-    let first = c.end_key-first.ensures in
+    let first = c.place_key-first.ensures in
     let far = c.if-key-first.true in
     refreshed_all c.args.network.now.nodes c.args.names.now c.args.index.now c.args.each.now c.args.taken c.first_from-low.result c.loop-at.at c.loop-at.each c.loop-at.invariant c.requires.index c.args.end
     (λ k less. let below = c.first_from-low.ensures.before k less in omega (arith, below, first))

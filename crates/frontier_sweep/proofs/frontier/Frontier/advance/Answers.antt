@@ -77,8 +77,11 @@ returns-clause-after c order h =
     let was = subst (IsRises network c.args.self.now.left c.args.self.now.names) (ap (λ (frontier : Frontier). frontier.rises) (sym c.self.view_is)) h.rises_are in
     let rises : IsRises network (remove c.args.self.now.left at) c.as_slice.result.now c.refresh.new.self = c.refresh.ensures c.args.self.now.names c.args.self.now.left (remove c.args.self.now.left at) was shown in
     let rises_now = subst (λ (names : List ℕ). IsRises network (remove c.args.self.now.left at) names c.refresh.new.self) open_now rises in
+    let groups = sym (ap (λ (frontier : Frontier). frontier.groups) c.self.view_is) in
+    let after =
     next_frontier m delta network order c.args.self.now c.args.turns.now h c.args.place node taken c.in_ok-seam.seam seam glued.node at in_range here
-    _ _ new_left names_after _ (subst (λ (left : List ℕ). IsRises network left c.into_names-self-inside.result.items c.refresh.new.self) (sym new_left) rises_now) next next_is few c.glue_node.new.turns turns
+    _ _ new_left names_after _ (subst (λ (left : List ℕ). IsRises network left c.into_names-self-inside.result.items c.refresh.new.self) (sym new_left) rises_now) next next_is few c.glue_node.new.turns turns in
+    subst (λ (groups : List ℕ). IsFrontier m delta network (order ++ c.args.place ∷ []) record { left = c.remove.new.self.items; names = c.into_names-self-inside.result.items; table = next; rises = c.refresh.new.self; groups = groups } c.glue_node.new.turns) groups after
 
 kept_rises : (c : goal.After-ends) → IsRises c.args.network.now c.args.self.now.left c.args.self.now.names c.self.inside.rises
 kept_rises c = subst (IsRises c.args.network.now c.args.self.now.left c.args.self.now.names) (ap (λ (frontier : Frontier). frontier.rises) (sym c.self.view_is)) (c.requires.frontier.1).rises_are

@@ -2,7 +2,7 @@ use Rattle.std.proofs.Common.{◌≡◌, ◌<◌, ◌≤◌, ltb, true, false, r
 use Rattle.std.specs.List.Sorted.{IsPartitionPoint}
 use Rattle.std.proofs.lemmas.Bool.Decides.{nat_tests}
 use Rattle.std.proofs.lemmas.List.Sorted.{IsPartitionPoint-from_clause, IsPartitionedBy-ltb}
-use Rattle.frontier_sweep.proofs.ends_index.first_from.Goals as goal
+use Rattle.frontier_sweep.proofs.place_key.first_from.Goals as goal
 
 found : (c : goal.After-partition_point) → IsPartitionPoint (λ n. ltb n c.args.key ≡ true) (λ n. ltb n c.args.key ≡ false) c.args.index.now c.partition_point.result
 found c = IsPartitionPoint-from_clause (λ n. ltb n c.args.key) c.args.index.now c.partition_point.result c.partition_point.ensures.partitioned (IsPartitionedBy-ltb (λ n. n) c.args.index.now c.args.key c.requires) (λ a r q k. search rules)
