@@ -72,7 +72,7 @@ range_has n q l =
     let same : 0 + q ≡ q = omega arith in
     sym (ap (is_member ◌==◌ (range_with_len 0 n)) (e ∙ same)) ∙ is_member-get_or (range_with_len 0 n) q (omega (arith, l, long))
 
-index_has : (ls : List ℕ) (e : ℕ) → is_member ◌==◌ ls e ≡ true → (rank ls e < length ls) × (slice_index ls (rank ls e) ≡ e)
+pub index_has : (ls : List ℕ) (e : ℕ) → is_member ◌==◌ ls e ≡ true → (rank ls e < length ls) × (slice_index ls (rank ls e) ≡ e)
 index_has [] e m = absurd (grind (arith, m))
 index_has (y ∷ ls) e m =
     let ih = index_has ls e in

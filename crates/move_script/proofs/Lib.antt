@@ -1,0 +1,3 @@
+pub mod Loops
+pub mod EdgeLemmas
+pub mod MadeMoves

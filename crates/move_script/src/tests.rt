@@ -1,0 +1,4 @@
+//! Worked rows.
+
+use super::*;
+use std::test::*;
