@@ -1,12 +1,11 @@
-pub mod StatusLemmas
+pub mod StageLemmas
+pub mod InputLemmas
 pub mod ParametersLemmas
-pub mod SweepOutcomes
-pub mod OutcomeLemmas
-pub mod StreamFaults
+pub mod StatusLemmas
+pub mod DiagramLemmas
 pub mod RunLemmas
+pub mod TaskLemmas
 pub mod UniqueOutcomes
-pub mod OutcomesExist
-pub mod Completeness
+pub mod Settled
 pub mod OneResidue
-mod SweepExamples
 mod Examples

@@ -9,8 +9,8 @@ use Rattle.root_quantum.specs.declared.form.Form.{Form}
 use Rattle.root_quantum.specs.declared.form.Form.TheVariants.{All}
 use Rattle.root_quantum.specs.declared.fault.ParamFault.{ParamFault}
 use Rattle.wrt_request.specs.declared.request.Numbers.{Numbers}
-use Rattle.wrt_commands.specs.declared.parameters.ParametersFault.{ParametersFault}
-use Rattle.wrt_commands.specs.Outcomes.{level_of, against_parameters, judged, parameters_of}
+use Rattle.wrt_commands.specs.declared.parameters_refusal.ParametersRefusal.{ParametersRefusal}
+use Rattle.wrt_commands.specs.Parameters.{level_of, against_parameters, judged, parameters_of}
 
 -- the level that is read: R, and past 32 bits the greatest number of 32 bits
 pub level_law : {E : Type 0} (t : Result ℕ E) (level : ℕ) → OkIff t (level < 4294967296) level → result_unwrap_or t 4294967295 ≡ min level (2 ^ 32 - 1)
@@ -24,7 +24,7 @@ made_at p full None is =
 made_at p full (Some fault) is =
     let none = (accepted_law All p.modulus p.root p.level).0 (subst (λ (k : Form). IsParameters k p.modulus p.root p.level) full p.meets) in absurd (cc)
 
-abbrev at : ℕ → ℕ → ℕ → Result Parameters ParametersFault
+abbrev at : ℕ → ℕ → ℕ → Result Parameters ParametersRefusal
 at m a r = judged m a r (refusal All m a r) refl
 
 -- parameters of these numbers are what the numbers come to

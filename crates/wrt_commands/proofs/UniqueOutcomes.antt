@@ -1,58 +1,49 @@
--- Words and bytes come to at most one outcome.
-use Rattle.std.proofs.Common.{◌≡◌, ◌≢◌, ◌⊎◌, ◌<◌, ◌∙◌, inl, inr, ℕ, List, length, slice_index, true, false, Some, Result, Ok, Err, refl, sym, ap, subst, arith}
-use Rattle.pd_reader.specs.declared.item.Item.{Item}
-use Rattle.pd_reader.specs.declared.fault.TextFault.{TextFault}
-use Rattle.pd_reader.specs.declared.fault.TextFault.TheVariants as texts
-use Rattle.pd_reader.specs.Refusals.{IsPdReading}
-use Rattle.pd_reader.specs.Faults.{cause, no_memory}
-use Rattle.pd_reader.proofs.OneReading.{readings_are_unique_lem}
+-- Words and bytes come to exactly one outcome.
+use Rattle.std.proofs.Common.{◌≡◌, ◌∙◌, ℕ, List, true, false, Result, Ok, Err, refl, sym}
 use Rattle.root_quantum.specs.Parameters.{Parameters}
-use Rattle.wrt_request.specs.declared.request.Request.{Request}
 use Rattle.wrt_request.specs.declared.request.Task.{Task}
 use Rattle.wrt_request.specs.declared.request.Task.TheVariants.{Bracket, Torus}
-use Rattle.wrt_commands.specs.Outcomes.{Opening, ended, asks, Outcome, opening, outcome_of, is_about_input, reads_input, IsReading, IsInputOutcome, IsTaskOutcome, IsOutcomeAt}
-use Rattle.wrt_commands.specs.Laws.{OutcomesAreUnique}
+use Rattle.wrt_commands.specs.declared.opening.Opened.{Opened}
+use Rattle.wrt_commands.specs.declared.refusal.Refusal.{Refusal}
+use Rattle.wrt_commands.specs.DiagramReports.{diagram_report}
+use Rattle.wrt_commands.specs.Inputs.{IsPd}
+use Rattle.wrt_commands.specs.Laws.{OutcomesAreUnique, OutcomesExist}
+use Rattle.wrt_commands.specs.Openings.{opening, is_about_input, reads_input}
+use Rattle.wrt_commands.specs.Outcomes.{Outcome, IsTaskOutcome, IsOutcomeAt}
+use Rattle.wrt_commands.specs.TorusOutcomes.{torus_outcome}
+use Rattle.wrt_commands.proofs.InputLemmas.{one_input, some_input, pd_one_text, pd_text}
 
--- ---- one reading
-known_cause : (fault : TextFault) → fault ≢ texts.Memory → cause fault ≢ no_memory
-known_cause (texts.Head at) known e = absurd (cc)
-known_cause (texts.Number at) known e = absurd (cc)
-known_cause (texts.Text at) known e = absurd (cc)
-known_cause (texts.TooMany limit) known e = absurd (cc)
-known_cause (texts.Label label count) known e = absurd (cc)
-known_cause texts.Memory known e = known refl
+-- ---- at most one
+one_of_task : (p : Parameters) (task : Task) (bytes : List ℕ) (x y : Outcome) → IsTaskOutcome p task bytes x → IsTaskOutcome p task bytes y → x ≡ y
+one_of_task p (Bracket sweep) bytes x y h k = one_input IsPd (diagram_report p sweep) bytes pd_one_text x y h k
+one_of_task p (Torus crossings sweep) bytes x y h k = sym h ∙ k
 
-pd_reading : (bytes : List ℕ) (read : Result (List Item) TextFault) → IsReading bytes read → IsPdReading bytes read
-pd_reading bytes (Ok items) h = h
-pd_reading bytes (Err fault) h = (known_cause fault h.0, h.1, h.2)
-
-one_reading : (bytes : List ℕ) (x y : Result (List Item) TextFault) → IsReading bytes x → IsReading bytes y → x ≡ y
-one_reading bytes x y h k = readings_are_unique_lem.0 bytes x y (pd_reading bytes x h) (pd_reading bytes y k)
-
--- ---- one outcome
-one_input : (p : Parameters) (request : Request) (bytes : List ℕ) (x y : Outcome) → IsInputOutcome p request bytes x → IsInputOutcome p request bytes y → x ≡ y
-one_input p request bytes x y (inl h) (inl k) = h.1 ∙ sym k.1
-one_input p request bytes x y (inl h) (inr k) = let long = h.0 in let short = k.0 in absurd (omega (arith, long, short))
-one_input p request bytes x y (inr h) (inl k) = let short = h.0 in let long = k.0 in absurd (omega (arith, long, short))
-one_input p request bytes x y (inr h) (inr k) = h.1.2 ∙ ap (outcome_of p request) (one_reading bytes h.1.0 k.1.0 h.1.1 k.1.1) ∙ sym k.1.2
-
-one_of_task : (task : Task) (p : Parameters) (request : Request) (bytes : List ℕ) (x y : Outcome) → IsTaskOutcome task p request bytes x → IsTaskOutcome task p request bytes y → x ≡ y
-one_of_task Bracket p request bytes x y h k = one_input p request bytes x y h k
-one_of_task (Torus crossings) p request bytes x y h k = h ∙ sym k
-
-one_outcome : (at : Opening) (bytes : List ℕ) (x y : Outcome) → IsOutcomeAt at bytes x → IsOutcomeAt at bytes y → x ≡ y
-one_outcome (ended refusal) bytes x y h k = h ∙ sym k
-one_outcome (asks p request) bytes x y h k = one_of_task request.task p request bytes x y h k
+one_outcome : (at : Result Opened Refusal) (bytes : List ℕ) (x y : Outcome) → IsOutcomeAt at bytes x → IsOutcomeAt at bytes y → x ≡ y
+one_outcome (Ok asked) bytes x y h k = one_of_task asked.params asked.task bytes x y h k
+one_outcome (Err refusal) bytes x y h k = sym h ∙ k
 
 pub outcomes_are_unique_law : OutcomesAreUnique
 outcomes_are_unique_law words bytes x y h k = one_outcome (opening words) bytes x y h k
 
+-- ---- and one
+of_task : (p : Parameters) (task : Task) (bytes : List ℕ) → (outcome : Outcome) × IsTaskOutcome p task bytes outcome
+of_task p (Bracket sweep) bytes = some_input IsPd (diagram_report p sweep) bytes pd_text
+of_task p (Torus crossings sweep) bytes = (torus_outcome p crossings sweep, refl)
+
+of_opening : (at : Result Opened Refusal) (bytes : List ℕ) → (outcome : Outcome) × IsOutcomeAt at bytes outcome
+of_opening (Ok asked) bytes = of_task asked.params asked.task bytes
+of_opening (Err refusal) bytes = (Err refusal, refl)
+
+-- THERE IS AN OUTCOME
+pub outcomes_exist_law : OutcomesExist
+outcomes_exist_law words bytes = of_opening (opening words) bytes
+
 -- ---- where the input isn't read
-unread_task : (task : Task) (p : Parameters) (request : Request) (bytes other : List ℕ) (outcome : Outcome) → is_about_input task ≡ false → IsTaskOutcome task p request bytes outcome → IsTaskOutcome task p request other outcome
-unread_task Bracket p request bytes other outcome unread h = absurd (cc)
-unread_task (Torus crossings) p request bytes other outcome unread h = h
+unread_task : (p : Parameters) (task : Task) (bytes other : List ℕ) (outcome : Outcome) → is_about_input task ≡ false → IsTaskOutcome p task bytes outcome → IsTaskOutcome p task other outcome
+unread_task p (Bracket sweep) bytes other outcome unread h = absurd (cc)
+unread_task p (Torus crossings sweep) bytes other outcome unread h = h
 
 -- other bytes come to the same
-pub unread_outcome : (at : Opening) (bytes other : List ℕ) (outcome : Outcome) → reads_input at ≡ false → IsOutcomeAt at bytes outcome → IsOutcomeAt at other outcome
-unread_outcome (ended refusal) bytes other outcome unread h = h
-unread_outcome (asks p request) bytes other outcome unread h = unread_task request.task p request bytes other outcome unread h
+pub unread_outcome : (at : Result Opened Refusal) (bytes other : List ℕ) (outcome : Outcome) → reads_input at ≡ false → IsOutcomeAt at bytes outcome → IsOutcomeAt at other outcome
+unread_outcome (Ok asked) bytes other outcome unread h = unread_task asked.params asked.task bytes other outcome unread h
+unread_outcome (Err refusal) bytes other outcome unread h = h

@@ -1,15 +1,23 @@
 -- Laws over the definitions alone.
 --
---     OutcomesAreUnique         words and bytes come to at most one outcome
---     OutcomesExist             and to one at least
---     ReportsBeginWithBracket   whatever the order, the residue that a report tells is the bracket
-use Rattle.std.specs.Prelude.{◌≡◌, ℕ, List, Option}
+--     OutcomesAreUnique      words and bytes come to at most one outcome
+--     OutcomesExist          and to one at least
+--     OneResidue             two reports of one task, at the same parameters and bytes, begin with one residue, whatever the orders
+--     ReportsAreOfBrackets   the residue that the report of a diagram tells is its bracket
+use Rattle.std.specs.Prelude.{◌≡◌, ℕ, false, List, Option, Result, Ok, Err}
 use Rattle.root_quantum.specs.Parameters.{Parameters}
 use Rattle.pd_reader.specs.declared.item.Item.{Item}
 use Rattle.diagram_brackets.specs.Brackets.{bracket}
-use Rattle.wrt_request.specs.declared.request.Request.{Request}
+use Rattle.wrt_request.specs.declared.order.OrderWord.TheVariants.{Listed}
+use Rattle.wrt_request.specs.declared.request.Sweep.{Sweep}
+use Rattle.wrt_request.specs.declared.request.Task.{Task}
+use Rattle.wrt_request.specs.declared.request.Task.TheVariants.{Bracket, Torus}
+use Rattle.wrt_commands.specs.declared.opening.Opened.{Opened}
+use Rattle.wrt_commands.specs.declared.refusal.Refusal.{Refusal}
+use Rattle.wrt_commands.specs.DiagramReports.{diagram_report}
+use Rattle.wrt_commands.specs.Openings.{opening}
+use Rattle.wrt_commands.specs.Outcomes.{Outcome, IsOutcome}
 use Rattle.wrt_commands.specs.Reports.{report_of}
-use Rattle.wrt_commands.specs.Outcomes.{Outcome, done, diagram_outcome, IsOutcome}
 
 -- words and bytes come to at most one outcome
 abbrev pub OutcomesAreUnique : Type 0
@@ -19,8 +27,30 @@ OutcomesAreUnique = (words : List (List ℕ)) (bytes : List ℕ) (x y : Outcome)
 abbrev pub OutcomesExist : Type 0
 OutcomesExist = (words : List (List ℕ)) (bytes : List ℕ) → (outcome : Outcome) × IsOutcome words bytes outcome
 
+-- the report of a residue
+abbrev pub IsReportOf : ℕ → List ℕ → Type 0
+IsReportOf residue report = (turns : Option ℕ) × (report ≡ report_of residue turns)
+
 -- a report that a diagram comes to, in any order, is one of its bracket
-abbrev pub ReportsBeginWithBracket : Type 0
-ReportsBeginWithBracket =
-    (p : Parameters) (request : Request) (items : List Item) (report : List ℕ) → diagram_outcome p request items ≡ done report →
-    (turns : Option ℕ) × (report ≡ report_of (bracket p items) turns)
+abbrev pub ReportsAreOfBrackets : Type 0
+ReportsAreOfBrackets = (p : Parameters) (sweep : Sweep) (items : List Item) (report : List ℕ) → diagram_report p sweep items ≡ Ok report → IsReportOf (bracket p items) report
+
+-- the task in the listed order and without turns
+abbrev pub plain_sweep : Sweep
+plain_sweep = record { order = Listed; turns = false }
+
+abbrev pub plain_task : Task → Task
+plain_task (Bracket sweep) = Bracket plain_sweep
+plain_task (Torus crossings sweep) = Torus crossings plain_sweep
+
+-- the openings ask for one task at the same parameters, but for the options of the sweep
+abbrev pub AskAlike : Result Opened Refusal → Result Opened Refusal → Type 0
+AskAlike (Ok x) (Ok y) = (x.params ≡ y.params) × (plain_task x.task ≡ plain_task y.task)
+AskAlike (Ok x) (Err refusal) = ⊥
+AskAlike (Err refusal) y = ⊥
+
+-- then two reports for the same bytes begin with one residue
+abbrev pub OneResidue : Type 0
+OneResidue =
+    (words others : List (List ℕ)) (bytes report other : List ℕ) → AskAlike (opening words) (opening others) → IsOutcome words bytes (Ok report) → IsOutcome others bytes (Ok other)
+    → (residue : ℕ) × IsReportOf residue report × IsReportOf residue other

@@ -6,17 +6,26 @@
 --     Says w line                   the line was appended whole where the count didn't rise, and otherwise a part of it
 --     IsTold left bytes             the source tells these bytes, or tells none
 --     IsAtEnd before after          nothing is left in a source that tells what is left
---     IsRefusedAt opening bytes refusal    there is no report for this reason, where the words come to the opening
+--     IsRead left bytes             all bytes of the source, within the limit
+--     IsUnread left stop            its bytes are no input: they are too many, or a read failed, or memory was wanting
+--     IsStoppedAt opening bytes stop       there is no report for this reason, where the words come to the opening
 --     RunsTo words bytes status out err    the run ends with the status, and has written that to the two sinks
-use Rattle.std.specs.Prelude.{◌≡◌, ◌⊎◌, ℕ, ◌<◌, ◌≤◌, List, [], length, take, true, Option, Some, None}
+--     Settles opening outcome status       the outcome settles with which status a run may end
+use Rattle.std.specs.Prelude.{◌≡◌, ◌⊎◌, ℕ, ◌<◌, ◌≤◌, List, [], length, take, true, Option, Some, None, Result, Ok, Err}
 use Rattle.skein_io.specs.Faults.{Rose}
 use Rattle.skein_io.specs.Sink.{Appends}
+use Rattle.wrt_commands.specs.declared.opening.Opened.{Opened}
 use Rattle.wrt_commands.specs.declared.refusal.Refusal.{Refusal}
-use Rattle.wrt_commands.specs.declared.refusal.Refusal.TheVariants as refusals
+use Rattle.wrt_commands.specs.declared.refusal.Refusal.TheVariants.{TooLong}
 use Rattle.wrt_commands.specs.declared.status.Status.{Status}
 use Rattle.wrt_commands.specs.declared.status.Status.TheVariants.{Done, Input, Words, ReadFault, WriteFault, Limit, NoInverse, Memory}
-use Rattle.wrt_commands.specs.Reports.{status_of, fault_line}
-use Rattle.wrt_commands.specs.Outcomes.{Opening, opening, reads_input, done, refused, IsOutcome, IsOutcomeAt}
+use Rattle.wrt_commands.specs.declared.stop.Stop.{Stop}
+use Rattle.wrt_commands.specs.declared.stop.Stop.TheVariants as stops
+use Rattle.wrt_commands.specs.Openings.{opening, reads_input}
+use Rattle.wrt_commands.specs.Outcomes.{Outcome, IsOutcome, IsOutcomeAt}
+use Rattle.wrt_commands.specs.Refusals.{status_of}
+use Rattle.wrt_commands.specs.Stops.{stop_line, write_line}
+use Rattle.wrt_commands.specs.TooLongRefusals.{past_limit}
 
 -- What a sink had taken and has taken, where it tells, and its count of faults, before a call and after it.
 pub record Written : Type 0 where
@@ -54,55 +63,48 @@ abbrev pub IsAtEnd : Option (List ℕ) → Option (List ℕ) → Type 0
 IsAtEnd None after = after ≡ None
 IsAtEnd (Some left) after = after ≡ Some []
 
--- What the reading of an input gives: all its bytes, within the limit, or a refusal.
-abbrev pub IsInput : Option (List ℕ) → List ℕ → Type 0
-IsInput left bytes = IsTold left bytes × (length bytes ≤ 1048576)
+-- All bytes of a source, within the limit.
+abbrev pub IsRead : Option (List ℕ) → List ℕ → Type 0
+IsRead left bytes = IsTold left bytes × (length bytes ≤ 1048576)
 
-abbrev pub IsInputRefusal : Option (List ℕ) → Refusal → Type 0
-IsInputRefusal left refusals.ReadFault = Unit {0}
-IsInputRefusal left refusals.TooLong = (bytes : List ℕ) × IsTold left bytes × (1048576 < length bytes)
-IsInputRefusal left refusals.Memory = Unit {0}
-IsInputRefusal left refusals.WordsRefused = ⊥
-IsInputRefusal left (refusals.Words fault) = ⊥
-IsInputRefusal left (refusals.Parameters fault) = ⊥
-IsInputRefusal left (refusals.Text fault) = ⊥
-IsInputRefusal left (refusals.NotPlanar faces wanted) = ⊥
-IsInputRefusal left (refusals.Order items) = ⊥
-IsInputRefusal left (refusals.Wide step ends) = ⊥
-IsInputRefusal left (refusals.Table step) = ⊥
-IsInputRefusal left refusals.WriteFault = ⊥
+-- Why they aren't read.
+abbrev pub IsUnread : Option (List ℕ) → Stop → Type 0
+IsUnread left (stops.Refused refusal) = (bytes : List ℕ) × IsTold left bytes × (1048576 < length bytes) × (refusal ≡ TooLong past_limit)
+IsUnread left stops.ReadFault = Unit {0}
+IsUnread left stops.Memory = Unit {0}
 
--- There is no report for this reason: it is the outcome's, but where a read failed or memory was wanting.
-abbrev pub IsRefusedAt : Opening → List ℕ → Refusal → Type 0
-IsRefusedAt at bytes refusals.ReadFault = reads_input at ≡ true
-IsRefusedAt at bytes refusals.WriteFault = ⊥
-IsRefusedAt at bytes refusals.Memory = Unit {0}
-IsRefusedAt at bytes refusals.WordsRefused = IsOutcomeAt at bytes (refused refusals.WordsRefused)
-IsRefusedAt at bytes (refusals.Words fault) = IsOutcomeAt at bytes (refused (refusals.Words fault))
-IsRefusedAt at bytes (refusals.Parameters fault) = IsOutcomeAt at bytes (refused (refusals.Parameters fault))
-IsRefusedAt at bytes refusals.TooLong = IsOutcomeAt at bytes (refused refusals.TooLong)
-IsRefusedAt at bytes (refusals.Text fault) = IsOutcomeAt at bytes (refused (refusals.Text fault))
-IsRefusedAt at bytes (refusals.NotPlanar faces wanted) = IsOutcomeAt at bytes (refused (refusals.NotPlanar faces wanted))
-IsRefusedAt at bytes (refusals.Order items) = IsOutcomeAt at bytes (refused (refusals.Order items))
-IsRefusedAt at bytes (refusals.Wide step ends) = IsOutcomeAt at bytes (refused (refusals.Wide step ends))
-IsRefusedAt at bytes (refusals.Table step) = IsOutcomeAt at bytes (refused (refusals.Table step))
+-- There is no report for this reason: a refusal is the outcome's, and a read fails only where the input is read.
+abbrev pub IsStoppedAt : Result Opened Refusal → List ℕ → Stop → Type 0
+IsStoppedAt at bytes (stops.Refused refusal) = IsOutcomeAt at bytes (Err refusal)
+IsStoppedAt at bytes stops.ReadFault = reads_input at ≡ true
+IsStoppedAt at bytes stops.Memory = Unit {0}
 
 -- The same, by the words.
-abbrev pub IsRefusedAs : List (List ℕ) → List ℕ → Refusal → Type 0
-IsRefusedAs words bytes refusal = IsRefusedAt (opening words) bytes refusal
+abbrev pub IsStopped : List (List ℕ) → List ℕ → Stop → Type 0
+IsStopped words bytes stop = IsStoppedAt (opening words) bytes stop
 
 -- The run is refused for what the outcome says.
 abbrev pub IsRefusedRun : List (List ℕ) → List ℕ → Status → Written → Written → Type 0
 IsRefusedRun words bytes status out err =
-    (refusal : Refusal) × IsOutcome words bytes (refused refusal) × (status ≡ status_of refusal) × IsUntouched out × Says err (fault_line refusal)
+    (refusal : Refusal) × IsOutcome words bytes (Err refusal) × (status ≡ status_of refusal) × IsUntouched out × Says err (stop_line (stops.Refused refusal))
 
 -- The run ends with the status, by the outcome of the words and the bytes.
 abbrev pub RunsTo : List (List ℕ) → List ℕ → Status → Written → Written → Type 0
-RunsTo words bytes Done out err = (report : List ℕ) × IsOutcome words bytes (done report) × IsWhole out report × IsUntouched err
-RunsTo words bytes WriteFault out err = (report : List ℕ) × IsOutcome words bytes (done report) × IsPart out report × Says err (fault_line refusals.WriteFault)
-RunsTo words bytes ReadFault out err = (reads_input (opening words) ≡ true) × IsUntouched out × Says err (fault_line refusals.ReadFault)
-RunsTo words bytes Memory out err = IsUntouched out × Says err (fault_line refusals.Memory)
+RunsTo words bytes Done out err = (report : List ℕ) × IsOutcome words bytes (Ok report) × IsWhole out report × IsUntouched err
+RunsTo words bytes WriteFault out err = (report : List ℕ) × IsOutcome words bytes (Ok report) × IsPart out report × Says err write_line
+RunsTo words bytes ReadFault out err = (reads_input (opening words) ≡ true) × IsUntouched out × Says err (stop_line stops.ReadFault)
+RunsTo words bytes Memory out err = IsUntouched out × Says err (stop_line stops.Memory)
 RunsTo words bytes Input out err = IsRefusedRun words bytes Input out err
 RunsTo words bytes Words out err = IsRefusedRun words bytes Words out err
 RunsTo words bytes Limit out err = IsRefusedRun words bytes Limit out err
 RunsTo words bytes NoInverse out err = IsRefusedRun words bytes NoInverse out err
+
+-- Memory was wanting, or a read failed, which comes only where the input is read.
+abbrev pub IsInterrupted : Result Opened Refusal → Status → Type 0
+IsInterrupted at status = (status ≡ Memory) ⊎ ((status ≡ ReadFault) × (reads_input at ≡ true))
+
+-- With which status a run may end, by the outcome: a report's run is done, or a write failed; a refusal's ends with its status; or the
+-- run was interrupted.
+abbrev pub Settles : Result Opened Refusal → Outcome → Status → Type 0
+Settles at (Ok report) status = ((status ≡ Done) ⊎ (status ≡ WriteFault)) ⊎ IsInterrupted at status
+Settles at (Err refusal) status = (status ≡ status_of refusal) ⊎ IsInterrupted at status

@@ -1,15 +1,20 @@
 //! Orders of the items of a diagram.
 
-ghost use Rattle.std.specs.Prelude.{◌≡◌, ◌≤◌, ◌==◌, true, false, OnOk, IfErr, length};
+ghost use Rattle.std.specs.Prelude.{◌≡◌, ◌≤◌, ◌==◌, IfOk, length};
 ghost use Rattle.std.specs.List.{list_all, range_with_len};
 ghost use Rattle.list_lemmas.specs.Times.{times_in};
-ghost use Rattle.wrt_commands.specs.declared.refusal.Refusal.TheVariants as refusals;
+ghost use Rattle.frontier_sweep.specs.Next.{next_of};
+ghost use Rattle.wrt_commands.specs.DiagramReports.{crossing_count, item_order, next_by};
 ghost use Rattle.wrt_commands.specs.ItemOrders.{is_listing, is_order_of};
-ghost use Rattle.wrt_commands.specs.Outcomes.{crossing_count};
+ghost use Rattle.wrt_commands.specs.Stops.{Answers, Is};
 
+use crate::arguments_refusal::ArgumentsRefusal;
 use crate::refusal::Refusal;
+use crate::stop::Stop;
+use frontier_sweep::{Chooser, Order};
 use list_lemmas::count_of;
 use pd_reader::Item;
+use std::alloc::{AllocError, Global};
 use wrt_request::OrderWord;
 
 /// How many items have places: the crossings.
@@ -49,16 +54,31 @@ fn is_order_of(items: u32, order: &OrderWord) -> bool
     }
 }
 
-/// Refuses a list that isn't one of the crossings, which have the numbers from 1 on.
-pub(crate) fn check_order(order: &OrderWord, items: &[Item]) -> Result<(), Refusal>
+/// The order as what chooses.
+fn chooser(alloc: Global, order: &OrderWord) -> Result<Chooser<Order>, AllocError>
+    ensures { IfOk result (λ chooser. next_of chooser ≡ next_by order.now) }
+{
+    let order = match order {
+        OrderWord::Listed => Order::Listed,
+        OrderWord::Greedy => Order::Greedy,
+        OrderWord::Given(list) => Order::Given(Vec::from_slice(alloc, list.members())?),
+    };
+    Ok(Chooser::keep(order))
+}
+
+/// What chooses the crossings, which have the numbers from 1 on; a list that isn't one of them is refused.
+pub(crate) fn item_chooser(
+    alloc: Global,
+    order: &OrderWord,
+    items: &[Item],
+) -> Result<Chooser<Order>, Stop>
     requires { length items.now ≤ 256 }
-    ensures ok { OnOk result (is_order_of (crossing_count items.now) order.now ≡ true) }
-    ensures refused { IfErr result (λ refusal. (refusal ≡ refusals.Order (crossing_count items.now)) × (is_order_of (crossing_count items.now) order.now ≡ false)) }
+    ensures { Answers (Is (item_order order.now items.now)) next_of result }
 {
     let crossings = crossings(items) as u32;
     if is_order_of(crossings, order) {
-        Ok(())
+        Ok(chooser(alloc, order)?)
     } else {
-        Err(Refusal::Order { items: crossings })
+        Err(Stop::Refused(Refusal::Arguments(ArgumentsRefusal::Order { items: crossings })))
     }
 }

@@ -1,6 +1,6 @@
 //! Laws over the definitions alone: the facts that these functions ensure, which do nothing.
 
-ghost use Rattle.wrt_commands.specs.Laws.{OutcomesAreUnique, OutcomesExist, ReportsBeginWithBracket};
+ghost use Rattle.wrt_commands.specs.Laws.{OneResidue, OutcomesAreUnique, OutcomesExist, ReportsAreOfBrackets};
 
 /// The words and the bytes of the input come to at most one outcome: so what `run` says of an outcome says what the
 /// program prints.
@@ -14,8 +14,13 @@ pub fn outcomes_exist()
     ensures { OutcomesExist }
 {}
 
-/// Whatever the order of the crossings, the residue of a report is the bracket of the diagram: two runs that
-/// differ in their order alone, and both end with a report, print the same residue.
-pub fn reports_begin_with_bracket()
-    ensures { ReportsBeginWithBracket }
+/// The residue of a report is the bracket of the diagram, in whatever order its crossings are taken.
+pub fn reports_are_of_brackets()
+    ensures { ReportsAreOfBrackets }
+{}
+
+/// Two runs of one task, at the same parameters and bytes, that both end with a report, print the same residue, whatever
+/// the orders of the crossings, and with turns or without.
+pub fn one_residue()
+    ensures { OneResidue }
 {}

@@ -1,21 +1,37 @@
 //! The program's commands: from words and a source to a report on one sink or a fault line on another.
 #![tactic(auto)]
 
+mod arguments_refusal;
+mod bracket;
+mod diagram_report;
 mod input;
 mod item_order;
 mod laws;
 mod opening;
 mod parameters;
+mod parameters_refusal;
+mod plane_refusal;
 mod refusal;
-mod report;
 mod status;
-mod sweeping;
+mod stop;
 #[cfg(test)]
 mod tests;
+mod text_refusal;
+mod too_long;
 mod top;
+mod torus;
+mod value_refusal;
+mod words_refusal;
 
-pub use laws::{outcomes_are_unique, outcomes_exist, reports_begin_with_bracket};
-pub use parameters::{ParametersFault, read_parameters};
-pub use refusal::{Refusal, SweepStep};
+pub use arguments_refusal::ArgumentsRefusal;
+pub use laws::{one_residue, outcomes_are_unique, outcomes_exist, reports_are_of_brackets};
+pub use parameters::read_parameters;
+pub use parameters_refusal::ParametersRefusal;
+pub use plane_refusal::PlaneRefusal;
+pub use refusal::Refusal;
 pub use status::Status;
+pub use stop::Stop;
+pub use text_refusal::{Counted, TextRefusal};
+pub use too_long::TooLong;
 pub use top::run;
+pub use words_refusal::WordsRefusal;

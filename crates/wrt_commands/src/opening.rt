@@ -1,57 +1,70 @@
 //! What words come to before the input is read.
 
-ghost use Rattle.std.specs.Prelude.{◌≡◌, ◌≢◌, ◌⊎◌, true, Err, IfOk, MatchResult, map};
-ghost use Rattle.wrt_request.specs.Requests.{IsInRange, request_of};
-ghost use Rattle.wrt_words.specs.Words.{command_line, takes_line};
+ghost use Rattle.std.specs.Prelude.{◌≡◌, ◌≢◌, true, Err, IfOk, map};
 ghost use Rattle.wrt_parts.specs.Texts.{texts_of};
+ghost use Rattle.wrt_request.specs.Requests.{IsInRange};
+ghost use Rattle.wrt_words.specs.Words.{command_line, takes_line};
+ghost use Rattle.wrt_commands.specs.Openings.{opening, with_request, with_texts};
+ghost use Rattle.wrt_commands.specs.Stops.{Answers, Is};
 ghost use Rattle.wrt_commands.specs.declared.refusal.Refusal.TheVariants as refusals;
-ghost use Rattle.wrt_commands.specs.Outcomes.{opening, with_request, ended, asks};
+ghost use Rattle.wrt_commands.specs.declared.stop.Stop.TheVariants as stops;
+ghost use Rattle.wrt_commands.specs.declared.words_refusal.WordsRefusal.TheVariants as words_refusals;
 
 use crate::parameters::read_parameters;
 use crate::refusal::Refusal;
+use crate::stop::Stop;
+use crate::words_refusal::WordsRefusal;
 use root_quantum::Params;
 use std::alloc::Global;
 use wrt_parts::Parts;
-use wrt_request::{PartsFault, Request, read_request};
+use wrt_request::{PartsFault, Request, Task, read_request};
 use wrt_words::{WordsFault, command_line, read_words};
 
-/// Parameters, and what is asked for.
+/// Parameters, and what is asked for at them.
 #[derive(Drop)]
 pub(crate) struct Opened {
     pub(crate) params: Params,
-    pub(crate) request: Request,
+    pub(crate) task: Task,
+}
+
+/// The task of a request, at its parameters.
+fn open_request(request: Request) -> Result<Opened, Refusal>
+    requires { IsInRange request.task }
+    ensures answer { result ≡ with_request request }
+    ensures in_range { IfOk result (λ opened. IsInRange opened.task) }
+{
+    let Request { task, numbers } = request;
+    match read_parameters(&numbers) {
+        Ok(params) => Ok(Opened { params, task }),
+        Err(refusal) => Err(Refusal::Parameters(refusal)),
+    }
 }
 
 /// What the parts ask for, at its parameters.
-fn open_parts(alloc: Global, parts: &Parts) -> Result<Opened, Refusal>
-    ensures answer { MatchResult result (λ opened. with_request (request_of (texts_of parts.now)) ≡ asks opened.params opened.request)
-        (λ refusal. (refusal ≡ refusals.Memory) ⊎ (with_request (request_of (texts_of parts.now)) ≡ ended refusal)) }
-    ensures in_range { IfOk result (λ opened. IsInRange opened.request.task) }
-    ensures taken { result ≢ Err refusals.WordsRefused }
+fn open_parts(alloc: Global, parts: &Parts) -> Result<Opened, Stop>
+    ensures answer { Answers (Is (with_texts (texts_of parts.now))) (λ opened. opened) result }
+    ensures in_range { IfOk result (λ opened. IsInRange opened.task) }
+    ensures taken { result ≢ Err (stops.Refused (refusals.Words words_refusals.NoCommandLine)) }
 {
     match read_request(alloc, parts) {
-        Ok(request) => match read_parameters(&request.numbers) {
-            Ok(params) => Ok(Opened { params, request }),
-            Err(fault) => Err(Refusal::Parameters(fault)),
-        },
-        Err(PartsFault::Memory) => Err(Refusal::Memory),
-        Err(fault) => Err(Refusal::Words(fault)),
+        Ok(request) => Ok(open_request(request)?),
+        Err(PartsFault::Refused(refusal)) => Err(Stop::Refused(Refusal::Words(WordsRefusal::Parts(
+            refusal,
+        )))),
+        Err(PartsFault::Memory) => Err(Stop::Memory),
     }
 }
 
 /// What the words behind the program's name ask for, at its parameters.
-pub(crate) fn open_words(alloc: Global, words: &[&str]) -> Result<Opened, Refusal>
-    ensures answer { MatchResult result (λ opened. opening (map (λ s. s.now) words.now) ≡ asks opened.params opened.request)
-        (λ refusal. (refusal ≡ refusals.Memory) ⊎ (opening (map (λ s. s.now) words.now) ≡ ended refusal)) }
-    ensures in_range { IfOk result (λ opened. IsInRange opened.request.task) }
-    ensures taken { takes_line (command_line (map (λ s. s.now) words.now)) ≡ true → result ≢ Err refusals.WordsRefused }
+pub(crate) fn open_words(alloc: Global, words: &[&str]) -> Result<Opened, Stop>
+    ensures answer { Answers (Is (opening (map (λ s. s.now) words.now))) (λ opened. opened) result }
+    ensures in_range { IfOk result (λ opened. IsInRange opened.task) }
+    ensures taken { takes_line (command_line (map (λ s. s.now) words.now)) ≡ true → result ≢ Err (stops.Refused (refusals.Words words_refusals.NoCommandLine)) }
 {
-    let Ok(line) = command_line(alloc, words) else {
-        return Err(Refusal::Memory);
-    };
+    let line = command_line(alloc, words)?;
     match read_words(alloc, &line) {
         Ok(parts) => open_parts(alloc, &parts),
-        Err(WordsFault::Refused) => Err(Refusal::WordsRefused),
-        Err(WordsFault::Memory) => Err(Refusal::Memory),
+        Err(WordsFault::Refused) => Err(Stop::Refused(Refusal::Words(WordsRefusal::NoCommandLine))),
+        Err(WordsFault::Memory) => Err(Stop::Memory),
     }
 }

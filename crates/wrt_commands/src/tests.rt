@@ -20,6 +20,16 @@ type Fault = (
     &'static [u8],
 );
 
+/// Words, an input, the calls of the source and the two sinks that fail (0: none), the status and what stands on the sinks.
+type Stream = (
+    &'static [&'static str],
+    &'static [u8],
+    [u64; 3],
+    Status,
+    &'static [u8],
+    &'static [u8],
+);
+
 /// The left-handed trefoil: 36 bytes.
 const TREFOIL: &[u8] = b"PD[X[1,4,2,5],X[3,6,4,1],X[5,2,6,3]]";
 
@@ -31,8 +41,9 @@ const BRACKET: &[&str] = &["bracket", "41", "2", "5"];
 
 const TURNS: &[&str] = &["bracket", "41", "2", "5", "--turns"];
 
-/// Diagrams and their brackets.
-const BRACKETS: [Report; 7] = [
+/// Diagrams and their brackets; words in any order that is taken, and the three orders of the crossings; torus links, whatever the
+/// input.
+const REPORTS: [Report; 22] = [
     (BRACKET, b"PD[]", b"1\n"),
     (BRACKET, b"PD[Loop[1]]", b"6\n"),
     (BRACKET, b"PD[X[1,1,2,2]]", b"34\n"),
@@ -44,10 +55,6 @@ const BRACKETS: [Report; 7] = [
         b"PD[X[4,2,5,1],X[8,6,1,5],X[6,3,7,4],X[2,7,3,8]]",
         b"2\nturns 14\n",
     ),
-];
-
-/// Words in any order that is taken, and the three orders of the crossings.
-const ORDERS: [Report; 10] = [
     (
         &["bracket", "41", "2", "5", "--order=greedy"],
         TORUS_KNOT,
@@ -94,10 +101,6 @@ const ORDERS: [Report; 10] = [
         b"PD[Loop[3],X[1,1,2,2],Loop[4]]",
         b"35\n",
     ),
-];
-
-/// Torus links, whatever the input.
-const TORUS_LINKS: [Report; 5] = [
     (
         &["torus", "2", "41", "2", "5", "--turns"],
         b"PD[",
@@ -121,8 +124,9 @@ const TORUS_LINKS: [Report; 5] = [
     ),
 ];
 
-/// Inputs that are refused.
-const INPUTS: [Fault; 6] = [
+/// Inputs, orders and words that are refused. In one listing 7 crossings without a common edge stand first: after 7 steps 28
+/// names are open.
+const FAULTS: [Fault; 28] = [
     (
         BRACKET,
         b"PD[X[1,4,2",
@@ -159,11 +163,6 @@ const INPUTS: [Fault; 6] = [
         Status::Input,
         b"wrtcalc: not planar: 1 faces, 3 wanted\n",
     ),
-];
-
-/// Lists that are no order of the crossings, and an order in which 7 crossings without a common edge stand
-/// first: after 7 steps 28 names are open.
-const LISTS: [Fault; 7] = [
     (
         BRACKET,
         TORUS_KNOT,
@@ -213,23 +212,6 @@ const LISTS: [Fault; 7] = [
         Status::Limit,
         b"wrtcalc: colouring 1: step 7 has 28 open ends\n",
     ),
-];
-
-/// Words that aren't a command line.
-const NO_LINES: [&[&str]; 9] = [
-    &[],
-    &["--turns"],
-    &["--help"],
-    &["bracket", "41", "2", "5", "-h"],
-    &["bracket", "41", "2", "5", "--even"],
-    &["bracket", "41", "2", "-5"],
-    &["bracket", "41", "2", "5", "--order"],
-    &["bracket", "41", "2", "5", "--order=1", "--order=1"],
-    &["bracket", "41", "2", "5", "--turns", "--turns"],
-];
-
-/// Words and numbers that ask for nothing.
-const WORDS: [Fault; 15] = [
     (
         &["homfly", "41", "2", "5"],
         b"",
@@ -322,61 +304,115 @@ const WORDS: [Fault; 15] = [
     ),
 ];
 
-/// A source and two sinks, with the calls of each that fail.
-fn streams(
-    rt: &(impl Abort + AllocGlobal),
-    input: &[u8],
-    reads: &[u64],
-    writes: &[u64],
-    errors: &[u64],
-) -> Result<(MemorySource, MemorySink, MemorySink), Fail> {
-    Ok((
-        MemorySource::new(rt.alloc(), input, 8, reads)?,
-        MemorySink::new(rt.alloc(), 256, 1, writes)?,
-        MemorySink::new(rt.alloc(), 256, 3, errors)?,
-    ))
+/// Words that aren't a command line.
+const NO_LINES: [&[&str]; 9] = [
+    &[],
+    &["--turns"],
+    &["--help"],
+    &["bracket", "41", "2", "5", "-h"],
+    &["bracket", "41", "2", "5", "--even"],
+    &["bracket", "41", "2", "-5"],
+    &["bracket", "41", "2", "5", "--order"],
+    &["bracket", "41", "2", "5", "--order=1", "--order=1"],
+    &["bracket", "41", "2", "5", "--turns", "--turns"],
+];
+
+const TORUS: &[&str] = &["torus", "256", "41", "2", "5"];
+
+const READ: &[u8] = b"wrtcalc: read failed\n";
+
+const WRITE: &[u8] = b"wrtcalc: write failed\n";
+
+/// Streams that fail. The trefoil has five reads of at most eight bytes, and one more finds the end; the report of the torus link
+/// has three bytes, one a write; a fault line goes out in pieces of three bytes. Refused words and parameters and a torus link
+/// leave a source alone that would fail.
+const STREAMS: [Stream; 14] = [
+    (BRACKET, TREFOIL, [1, 0, 0], Status::ReadFault, b"", READ),
+    (BRACKET, TREFOIL, [2, 0, 0], Status::ReadFault, b"", READ),
+    (BRACKET, TREFOIL, [3, 0, 0], Status::ReadFault, b"", READ),
+    (BRACKET, TREFOIL, [4, 0, 0], Status::ReadFault, b"", READ),
+    (BRACKET, TREFOIL, [5, 0, 0], Status::ReadFault, b"", READ),
+    (BRACKET, TREFOIL, [6, 0, 0], Status::ReadFault, b"", READ),
+    (TORUS, b"", [0, 1, 0], Status::WriteFault, b"", WRITE),
+    (TORUS, b"", [0, 2, 0], Status::WriteFault, b"1", WRITE),
+    (TORUS, b"", [0, 3, 0], Status::WriteFault, b"11", WRITE),
+    (BRACKET, b"PD[", [0, 0, 1], Status::Input, b"", b""),
+    (BRACKET, b"PD[", [0, 0, 2], Status::Input, b"", b"wrt"),
+    (
+        &["bracket", "41", "2"],
+        TREFOIL,
+        [1, 0, 0],
+        Status::Words,
+        b"",
+        b"wrtcalc: the command takes 3 numbers\n",
+    ),
+    (
+        &["bracket", "40", "2", "5"],
+        TREFOIL,
+        [1, 0, 0],
+        Status::Words,
+        b"",
+        b"wrtcalc: no order up to 20, wanted 20\n",
+    ),
+    (TORUS, TREFOIL, [1, 0, 0], Status::Done, b"11\n", b""),
+];
+
+/// A run over streams with those calls that fail ends with that status, and leaves that on the sinks.
+fn check(rt: &(impl Abort + AllocGlobal), row: Stream) -> Result<(), Fail> {
+    let (words, input, [read, write, error], status, report, line) = row;
+    let mut source = MemorySource::new(rt.alloc(), input, 8, &[read])?;
+    let mut out = MemorySink::new(rt.alloc(), 256, 1, &[write])?;
+    let mut err = MemorySink::new(rt.alloc(), 256, 3, &[error])?;
+    let answer = run(rt.alloc(), words, &mut source, &mut out, &mut err);
+    assert!(rt;
+        answer == status && out.bytes() == report && err.bytes() == line,
+        "{words:?}"
+    );
+    Ok(())
 }
 
-/// A run without a fault of a stream has that status, report and fault line.
-fn check(
+#[test]
+fn reports(rt: HostRuntime) -> Result<(), Fail> {
+    for (words, input, report) in REPORTS {
+        check(&rt, (words, input, [0; 3], Status::Done, report, b""))?;
+    }
+    Ok(())
+}
+
+#[test]
+fn faults(rt: HostRuntime) -> Result<(), Fail> {
+    for (words, input, status, line) in FAULTS {
+        check(&rt, (words, input, [0; 3], status, b"", line))?;
+    }
+    for words in NO_LINES {
+        let line = b"wrtcalc: words refused\n";
+        check(&rt, (words, TREFOIL, [1, 0, 0], Status::Words, b"", line))?;
+    }
+    Ok(())
+}
+
+#[test]
+fn streams_that_fail(rt: HostRuntime) -> Result<(), Fail> {
+    for row in STREAMS {
+        check(&rt, row)?;
+    }
+    Ok(())
+}
+
+/// A run on this input, with words that are taken, ends with that status, and leaves that report.
+fn check_plain(
     rt: &(impl Abort + AllocGlobal),
     words: &[&str],
     input: &[u8],
-    wanted: (Status, &[u8], &[u8]),
+    status: Status,
+    report: &[u8],
 ) -> Result<(), Fail> {
-    let (mut source, mut out, mut err) = streams(rt, input, &[], &[], &[])?;
+    let mut source = MemorySource::new(rt.alloc(), input, 65_536, &[])?;
+    let mut out = MemorySink::new(rt.alloc(), 256, 256, &[])?;
+    let mut err = MemorySink::new(rt.alloc(), 256, 256, &[])?;
     let answer = run(rt.alloc(), words, &mut source, &mut out, &mut err);
-    assert_eq!(rt; (answer, out.bytes(), err.bytes()), wanted, "{words:?}");
+    assert!(rt; answer == status && out.bytes() == report, "{words:?}");
     Ok(())
-}
-
-fn check_reports(rt: &(impl Abort + AllocGlobal), rows: &[Report]) -> Result<(), Fail> {
-    for (words, input, report) in rows {
-        check(rt, words, input, (Status::Done, report, b""))?;
-    }
-    Ok(())
-}
-
-fn check_faults(rt: &(impl Abort + AllocGlobal), rows: &[Fault]) -> Result<(), Fail> {
-    for (words, input, status, line) in rows {
-        check(rt, words, input, (*status, b"", line))?;
-    }
-    Ok(())
-}
-
-#[test]
-fn brackets_of_diagrams(rt: HostRuntime) -> Result<(), Fail> {
-    check_reports(&rt, &BRACKETS)
-}
-
-#[test]
-fn words_in_any_order(rt: HostRuntime) -> Result<(), Fail> {
-    check_reports(&rt, &ORDERS)
-}
-
-#[test]
-fn torus_links(rt: HostRuntime) -> Result<(), Fail> {
-    check_reports(&rt, &TORUS_LINKS)
 }
 
 /// The bracket of the closed braid of two strands with n crossings by Kauffman's formula,
@@ -394,93 +430,7 @@ fn torus_links_by_formula(rt: HostRuntime) -> Result<(), Fail> {
         let crossings = format!(in rt.alloc(); "{n}")?;
         let report = format!(in rt.alloc(); "{}\n", torus_bracket(&ring, n))?;
         let words = ["torus", &crossings, "41", "2", "5"];
-        check(&rt, &words, b"", (Status::Done, report.as_bytes(), b""))?;
-    }
-    Ok(())
-}
-
-#[test]
-fn refused_inputs(rt: HostRuntime) -> Result<(), Fail> {
-    check_faults(&rt, &INPUTS)
-}
-
-#[test]
-fn refused_orders(rt: HostRuntime) -> Result<(), Fail> {
-    check_faults(&rt, &LISTS)
-}
-
-#[test]
-fn refused_words(rt: HostRuntime) -> Result<(), Fail> {
-    check_faults(&rt, &WORDS)
-}
-
-#[test]
-fn no_command_lines(rt: HostRuntime) -> Result<(), Fail> {
-    for words in NO_LINES {
-        let line = b"wrtcalc: words refused\n";
-        check(&rt, words, TREFOIL, (Status::Words, b"", line))?;
-    }
-    Ok(())
-}
-
-/// The trefoil has five reads of at most eight bytes, and one more finds the end: each of them fails in turn.
-#[test]
-fn each_read_fails(rt: HostRuntime) -> Result<(), Fail> {
-    for read in 1..=6 {
-        let (mut source, mut out, mut err) = streams(&rt, TREFOIL, &[read], &[], &[])?;
-        let answer = run(rt.alloc(), BRACKET, &mut source, &mut out, &mut err);
-        assert_eq!(rt; answer, Status::ReadFault);
-        assert_eq!(rt; source.faults(), 1);
-        assert_eq!(rt; out.bytes(), b"".as_slice());
-        assert_eq!(rt; err.bytes(), b"wrtcalc: read failed\n".as_slice());
-    }
-    Ok(())
-}
-
-/// The report of a torus link has three bytes, one a write: each of the writes fails in turn.
-#[test]
-fn each_write_fails(rt: HostRuntime) -> Result<(), Fail> {
-    for (write, part) in [(1, b"".as_slice()), (2, b"1"), (3, b"11")] {
-        let (mut source, mut out, mut err) = streams(&rt, b"", &[], &[write], &[])?;
-        let words = ["torus", "256", "41", "2", "5"];
-        let answer = run(rt.alloc(), &words, &mut source, &mut out, &mut err);
-        assert_eq!(rt; answer, Status::WriteFault);
-        assert_eq!(rt; out.faults(), 1);
-        assert_eq!(rt; out.bytes(), part);
-        assert_eq!(rt; err.bytes(), b"wrtcalc: write failed\n".as_slice());
-    }
-    Ok(())
-}
-
-/// An error output that fails at once, or behind three bytes, changes neither the status nor the output.
-#[test]
-fn error_output_fails(rt: HostRuntime) -> Result<(), Fail> {
-    for (write, part) in [(1, b"".as_slice()), (2, b"wrt")] {
-        let (mut source, mut out, mut err) = streams(&rt, b"PD[", &[], &[], &[write])?;
-        let answer = run(rt.alloc(), BRACKET, &mut source, &mut out, &mut err);
-        assert_eq!(rt; answer, Status::Input);
-        assert_eq!(rt; out.bytes(), b"".as_slice());
-        assert_eq!(rt; err.faults(), 1);
-        assert_eq!(rt; err.bytes(), part);
-    }
-    Ok(())
-}
-
-/// Refused words, refused numbers and a torus link leave a source alone that would fail.
-#[test]
-fn nothing_is_read(rt: HostRuntime) -> Result<(), Fail> {
-    let few: &[&str] = &["bracket", "41", "2"];
-    let even: &[&str] = &["bracket", "40", "2", "5"];
-    let torus: &[&str] = &["torus", "2", "41", "2", "5"];
-    for (words, status) in [
-        (few, Status::Words),
-        (even, Status::Words),
-        (torus, Status::Done),
-    ] {
-        let (mut source, mut out, mut err) = streams(&rt, TREFOIL, &[1], &[], &[])?;
-        let answer = run(rt.alloc(), words, &mut source, &mut out, &mut err);
-        assert_eq!(rt; answer, status);
-        assert_eq!(rt; source.faults(), 0);
+        check_plain(&rt, &words, b"", Status::Done, report.as_bytes())?;
     }
     Ok(())
 }
@@ -490,14 +440,7 @@ fn nothing_is_read(rt: HostRuntime) -> Result<(), Fail> {
 fn longest_input(rt: HostRuntime) -> Result<(), Fail> {
     let mut input = Vec::from_slice(rt.alloc(), b"PD[]")?;
     input.resize(1_048_576, b' ')?;
-    for (status, report) in [(Status::Done, b"1\n".as_slice()), (Status::Limit, b"")] {
-        let mut source = MemorySource::new(rt.alloc(), &input, 65_536, &[])?;
-        let mut out = MemorySink::new(rt.alloc(), 256, 256, &[])?;
-        let mut err = MemorySink::new(rt.alloc(), 256, 256, &[])?;
-        let answer = run(rt.alloc(), BRACKET, &mut source, &mut out, &mut err);
-        assert_eq!(rt; answer, status);
-        assert_eq!(rt; out.bytes(), report);
-        input.push(b' ')?;
-    }
-    Ok(())
+    check_plain(&rt, BRACKET, &input, Status::Done, b"1\n")?;
+    input.push(b' ')?;
+    check_plain(&rt, BRACKET, &input, Status::Limit, b"")
 }

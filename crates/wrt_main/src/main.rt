@@ -5,7 +5,7 @@ use skein_io::{StdSink, StdSource};
 use std::alloc::AllocError;
 use std::process::ExitCode;
 use std::{env, io};
-use wrt_commands::{Refusal, Status, run};
+use wrt_commands::{Refusal, Status, Stop, WordsRefusal, run};
 
 /// Hands the words after the program's name and the standard streams to `run`.
 fn calculate(rt: &HostRuntime) -> io::Result<Status> {
@@ -20,11 +20,11 @@ fn calculate(rt: &HostRuntime) -> io::Result<Status> {
 /// Ends with the code of the run's status. Words that aren't UTF-8 are refused words, and where there is no memory
 /// for the words the status is want of memory.
 fn main(rt: HostRuntime) -> ExitCode {
-    let refusal = match calculate(&rt) {
+    let stop = match calculate(&rt) {
         Ok(status) => return ExitCode::from(status.code()),
-        Err(error) if error.kind() == io::ErrorKind::OutOfMemory => Refusal::Memory,
-        Err(_) => Refusal::WordsRefused,
+        Err(error) if error.kind() == io::ErrorKind::OutOfMemory => Stop::Memory,
+        Err(_) => Stop::Refused(Refusal::Words(WordsRefusal::NoCommandLine)),
     };
-    let _ = eprintln!(rt; "wrtcalc: {refusal}");
-    ExitCode::from(refusal.status().code())
+    let _ = eprintln!(rt; "wrtcalc: {stop}");
+    ExitCode::from(stop.status().code())
 }

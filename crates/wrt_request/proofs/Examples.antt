@@ -7,8 +7,8 @@ use Rattle.wrt_request.specs.declared.order.OrderWord.TheVariants.{Listed, Greed
 use Rattle.wrt_request.specs.declared.option_name.OptionName.TheVariants.{Colors, Framing, Workers, Order}
 use Rattle.wrt_request.specs.declared.request.Numbers.{Numbers}
 use Rattle.wrt_request.specs.declared.request.Task.TheVariants.{Bracket, Torus}
-use Rattle.wrt_request.specs.declared.fault.PartsFault.TheVariants as faults
-use Rattle.wrt_request.specs.declared.fault.PartsFault.TheVariants.{UnknownCommand, Takes, Number, Crossings}
+use Rattle.wrt_request.specs.declared.fault.PartsRefusal.TheVariants as refusals
+use Rattle.wrt_request.specs.declared.fault.PartsRefusal.TheVariants.{UnknownCommand, Takes, Number, Crossings}
 use Rattle.wrt_request.proofs.OnLiterals.{request_on_literals}
 use Rattle.wrt_request.specs.Decimals.{decimal_value}
 use Rattle.wrt_request.specs.Lists.{list_value}
@@ -109,31 +109,31 @@ sign_in_list : list_value (codes "3,+1") ≡ None
 unfolding request_on_literals
 sign_in_list = refl
 
-a_bracket : request_of (bare (codes "bracket") (codes "41 2 5")) ≡ Ok (record { task = Bracket; numbers = at_41; order = Listed; turns = false })
+a_bracket : request_of (bare (codes "bracket") (codes "41 2 5")) ≡ Ok (record { task = Bracket (record { order = Listed; turns = false }); numbers = at_41 })
 unfolding request_on_literals
 a_bracket = refl
 
-a_torus_link : request_of (record (bare (codes "torus") (codes "2 41 2 5")) { turns = true }) ≡ Ok (record { task = (Torus 2); numbers = at_41; order = Listed; turns = true })
+a_torus_link : request_of (record (bare (codes "torus") (codes "2 41 2 5")) { turns = true }) ≡ Ok (record { task = Torus 2 (record { order = Listed; turns = true }); numbers = at_41 })
 unfolding request_on_literals
 a_torus_link = refl
 
-greedily : request_of (record (bare (codes "bracket") (codes "41 2 5")) { order = Some (codes "greedy") }) ≡ Ok (record { task = Bracket; numbers = at_41; order = Greedy; turns = false })
+greedily : request_of (record (bare (codes "bracket") (codes "41 2 5")) { order = Some (codes "greedy") }) ≡ Ok (record { task = Bracket (record { order = Greedy; turns = false }); numbers = at_41 })
 unfolding request_on_literals
 greedily = refl
 
-by_its_name : request_of (record (bare (codes "bracket") (codes "41 2 5")) { order = Some (codes "listed") }) ≡ Ok (record { task = Bracket; numbers = at_41; order = Listed; turns = false })
+by_its_name : request_of (record (bare (codes "bracket") (codes "41 2 5")) { order = Some (codes "listed") }) ≡ Ok (record { task = Bracket (record { order = Listed; turns = false }); numbers = at_41 })
 unfolding request_on_literals
 by_its_name = refl
 
-in_an_order : request_of (record (bare (codes "bracket") (codes "41 2 5")) { order = Some (codes "3,1,2"); turns = true }) ≡ Ok (record { task = Bracket; numbers = at_41; order = (Given (3 ∷ 1 ∷ 2 ∷ [])); turns = true })
+in_an_order : request_of (record (bare (codes "bracket") (codes "41 2 5")) { order = Some (codes "3,1,2"); turns = true }) ≡ Ok (record { task = Bracket (record { order = (Given (3 ∷ 1 ∷ 2 ∷ [])); turns = true }); numbers = at_41 })
 unfolding request_on_literals
 in_an_order = refl
 
-in_the_empty_order : request_of (record (bare (codes "bracket") (codes "41 2 5")) { order = Some [] }) ≡ Ok (record { task = Bracket; numbers = at_41; order = (Given []); turns = false })
+in_the_empty_order : request_of (record (bare (codes "bracket") (codes "41 2 5")) { order = Some [] }) ≡ Ok (record { task = Bracket (record { order = (Given []); turns = false }); numbers = at_41 })
 unfolding request_on_literals
 in_the_empty_order = refl
 
-most_crossings : request_of (bare (codes "torus") (codes "256 41 2 5")) ≡ Ok (record { task = (Torus 256); numbers = at_41; order = Listed; turns = false })
+most_crossings : request_of (bare (codes "torus") (codes "256 41 2 5")) ≡ Ok (record { task = Torus 256 (record { order = Listed; turns = false }); numbers = at_41 })
 unfolding request_on_literals
 most_crossings = refl
 
@@ -174,25 +174,25 @@ empty_number : request_of (bare (codes "bracket") (codes "41  5")) ≡ Err (Numb
 unfolding request_on_literals
 empty_number = refl
 
-workers_of_bracket : request_of (record (bare (codes "bracket") (codes "41 2 5")) { workers = Some (codes "2") }) ≡ Err (faults.Option Workers)
+workers_of_bracket : request_of (record (bare (codes "bracket") (codes "41 2 5")) { workers = Some (codes "2") }) ≡ Err (refusals.Option Workers)
 unfolding request_on_literals
 workers_of_bracket = refl
 
 -- The options are looked at before their values.
-first_foreign_option : request_of (record (bare (codes "bracket") (codes "41 2 5")) { colors = Some []; workers = Some []; order = Some (codes "x") }) ≡ Err (faults.Option Colors)
+first_foreign_option : request_of (record (bare (codes "bracket") (codes "41 2 5")) { colors = Some []; workers = Some []; order = Some (codes "x") }) ≡ Err (refusals.Option Colors)
 unfolding request_on_literals
 first_foreign_option = refl
 
-foreign_flagged : request_of (record (bare (codes "torus") (codes "2 41 2 5")) { framing = Some (codes "1"); turns = true }) ≡ Err (faults.Option Framing)
+foreign_flagged : request_of (record (bare (codes "torus") (codes "2 41 2 5")) { framing = Some (codes "1"); turns = true }) ≡ Err (refusals.Option Framing)
 unfolding request_on_literals
 foreign_flagged = refl
 
 -- The values of the options are looked at before the crossings.
-no_order : request_of (record (bare (codes "torus") (codes "0 41 2 5")) { order = Some (codes "1;2") }) ≡ Err (faults.List Order)
+no_order : request_of (record (bare (codes "torus") (codes "0 41 2 5")) { order = Some (codes "1;2") }) ≡ Err (refusals.List Order)
 unfolding request_on_literals
 no_order = refl
 
-order_in_capitals : request_of (record (bare (codes "bracket") (codes "41 2 5")) { order = Some (codes "Listed") }) ≡ Err (faults.List Order)
+order_in_capitals : request_of (record (bare (codes "bracket") (codes "41 2 5")) { order = Some (codes "Listed") }) ≡ Err (refusals.List Order)
 unfolding request_on_literals
 order_in_capitals = refl
 

@@ -1,48 +1,60 @@
--- The program's commands. (This project's own.)
+-- The table of the program's commands. (This project's own.)
 --
+--     row_of command                   the command's row: its name, how many numbers stand before M, A and R, its options
 --     command_of name                  the command of this name
---     own_count command                how many numbers stand before M, A and R
---     is_order_or_turns option         the option is `--order` or `--turns`
---     has_option command option        the option belongs to the command
+--     has_option options option        the option is one of these
 --     is_foreign command texts option  the option is given and doesn't belong to the command
---     check_options command texts      all options that are given belong to the command, or the fault of the first that
+--     check_options command texts      all options that are given belong to the command, or the refusal of the first that
 --                                      doesn't
 --
 -- `bracket` takes M, A and R, and `torus` N before them; `--order` and `--turns` belong to both.
-use Rattle.std.specs.Prelude.{◌&&◌, ℕ, Bool, true, false, not, List, [], ◌∷◌, Option, Some, None, Result, Ok, Err, if◌then◌else◌, codes, find}
+use Rattle.std.specs.Prelude.{◌&&◌, ℕ, Bool, true, false, not, List, [], ◌∷◌, Option, Some, None, Result, Ok, Err, codes, find}
 use Rattle.std.specs.Str.{bytes_eq}
 use Rattle.wrt_parts.specs.Texts.{Text, Texts}
 use Rattle.wrt_request.specs.Options.{is_given}
 use Rattle.wrt_request.specs.declared.command.Command.{Command}
 use Rattle.wrt_request.specs.declared.command.Command.TheVariants.{Bracket, Torus}
+use Rattle.wrt_request.specs.declared.command.Options.{Options}
 use Rattle.wrt_request.specs.declared.option_name.OptionName.{OptionName}
 use Rattle.wrt_request.specs.declared.option_name.OptionName.TheVariants.{Colors, Framing, Workers, Order, Turns}
-use Rattle.wrt_request.specs.declared.fault.PartsFault.{PartsFault}
-use Rattle.wrt_request.specs.declared.fault.PartsFault.TheVariants as faults
+use Rattle.wrt_request.specs.declared.fault.PartsRefusal.{PartsRefusal}
+use Rattle.wrt_request.specs.declared.fault.PartsRefusal.TheVariants as refusals
+
+-- A row of the table.
+pub record CommandRow : Type 0 where
+  pub name : Text
+  pub own_numbers : ℕ
+  pub options : Options
+
+-- `--order` and `--turns`.
+abbrev pub order_and_turns : Options
+order_and_turns = record { colors = false; framing = false; workers = false; order = true; turns = true }
+
+-- The table.
+abbrev pub row_of : Command → CommandRow
+row_of Bracket = record { name = codes "bracket"; own_numbers = 0; options = order_and_turns }
+row_of Torus = record { name = codes "torus"; own_numbers = 1; options = order_and_turns }
+
+-- All commands.
+abbrev pub all_commands : List Command
+all_commands = Bracket ∷ Torus ∷ []
+
+-- The command that was found, or the refusal where there is none.
+abbrev pub known_command : Option Command → Result Command PartsRefusal
+known_command (Some command) = Ok command
+known_command None = Err refusals.UnknownCommand
 
 -- The command of this name.
-abbrev pub command_of : Text → Result Command PartsFault
-command_of name =
-    if bytes_eq name (codes "bracket") then Ok Bracket
-    else (if bytes_eq name (codes "torus") then Ok Torus else Err faults.UnknownCommand)
+abbrev pub command_of : Text → Result Command PartsRefusal
+command_of name = known_command (find (λ command. bytes_eq name (row_of command).name) all_commands)
 
--- How many numbers stand before M, A and R.
-abbrev pub own_count : Command → ℕ
-own_count Bracket = 0
-own_count Torus = 1
-
--- The option is `--order` or `--turns`.
-abbrev pub is_order_or_turns : OptionName → Bool
-is_order_or_turns Colors = false
-is_order_or_turns Framing = false
-is_order_or_turns Workers = false
-is_order_or_turns Order = true
-is_order_or_turns Turns = true
-
--- The option belongs to the command.
-abbrev pub has_option : Command → OptionName → Bool
-has_option Bracket option = is_order_or_turns option
-has_option Torus option = is_order_or_turns option
+-- The option is one of these.
+abbrev pub has_option : Options → OptionName → Bool
+has_option options Colors = options.colors
+has_option options Framing = options.framing
+has_option options Workers = options.workers
+has_option options Order = options.order
+has_option options Turns = options.turns
 
 -- All options, in the order in which they are looked at.
 abbrev pub all_options : List OptionName
@@ -50,13 +62,13 @@ all_options = Colors ∷ Framing ∷ Workers ∷ Order ∷ Turns ∷ []
 
 -- The option is given and doesn't belong to the command.
 abbrev pub is_foreign : Command → Texts → OptionName → Bool
-is_foreign command texts option = is_given texts option && not (has_option command option)
+is_foreign command texts option = is_given texts option && not (has_option (row_of command).options option)
 
--- No option is foreign, or the fault of the one that is.
-abbrev pub against_option : Option OptionName → Result (Unit {0}) PartsFault
+-- No option is foreign, or the refusal of the one that is.
+abbrev pub against_option : Option OptionName → Result (Unit {0}) PartsRefusal
 against_option None = Ok tt
-against_option (Some option) = Err (faults.Option option)
+against_option (Some option) = Err (refusals.Option option)
 
--- All options that are given belong to the command, or the fault of the first that doesn't.
-abbrev pub check_options : Command → Texts → Result (Unit {0}) PartsFault
+-- All options that are given belong to the command, or the refusal of the first that doesn't.
+abbrev pub check_options : Command → Texts → Result (Unit {0}) PartsRefusal
 check_options command texts = against_option (find (is_foreign command texts) all_options)

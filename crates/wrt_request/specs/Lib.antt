@@ -2,6 +2,7 @@ pub mod Decimals
 pub mod Lists
 pub mod Options
 pub mod Commands
+pub mod Stages
 pub mod Numbers
 pub mod Orders
 pub mod Requests

@@ -8,16 +8,16 @@ use Rattle.wrt_request.specs.Lists.{list_value}
 use Rattle.wrt_request.specs.declared.order.OrderWord.{OrderWord}
 use Rattle.wrt_request.specs.declared.order.OrderWord.TheVariants.{Listed, Greedy, Given}
 use Rattle.wrt_request.specs.declared.option_name.OptionName.TheVariants.{Order}
-use Rattle.wrt_request.specs.declared.fault.PartsFault.{PartsFault}
-use Rattle.wrt_request.specs.declared.fault.PartsFault.TheVariants as faults
+use Rattle.wrt_request.specs.declared.fault.PartsRefusal.{PartsRefusal}
+use Rattle.wrt_request.specs.declared.fault.PartsRefusal.TheVariants as refusals
 
 -- A list as an order.
-abbrev pub given_order : Option (List ℕ) → Result OrderWord PartsFault
+abbrev pub given_order : Option (List ℕ) → Result OrderWord PartsRefusal
 given_order (Some list) = Ok (Given list)
-given_order None = Err (faults.List Order)
+given_order None = Err (refusals.List Order)
 
 -- The order that the value says.
-abbrev pub order_of : Option Text → Result OrderWord PartsFault
+abbrev pub order_of : Option Text → Result OrderWord PartsRefusal
 order_of None = Ok Listed
 order_of (Some text) =
     if bytes_eq text (codes "listed") then Ok Listed

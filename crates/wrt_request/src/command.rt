@@ -1,10 +1,10 @@
-//! The program's commands: their names, how many numbers each takes and which options belong to it.
+//! The table of the program's commands: their names, how many numbers each takes and which options belong to it.
 
 ghost use Rattle.std.specs.Prelude.{◌≡◌};
 ghost use Rattle.wrt_parts.specs.Texts.{texts_of};
-ghost use Rattle.wrt_request.specs.Commands.{command_of, own_count, has_option, check_options};
+ghost use Rattle.wrt_request.specs.Commands.{command_of, has_option, check_options, row_of};
 
-use crate::fault::PartsFault;
+use crate::fault::PartsRefusal;
 use crate::option_name::OptionName;
 use wrt_parts::Parts;
 
@@ -17,46 +17,100 @@ pub(crate) enum Command {
     Torus,
 }
 
+/// For each option, whether it belongs to a command.
+#[derive(Clone, Copy)]
+pub(crate) struct Options {
+    pub(crate) colors: bool,
+    pub(crate) framing: bool,
+    pub(crate) workers: bool,
+    pub(crate) order: bool,
+    pub(crate) turns: bool,
+}
+
+/// A row of the table of commands.
+#[derive(Clone, Copy)]
+pub(crate) struct Row {
+    /// The command's name.
+    name: &'static str,
+    /// How many numbers stand before M, A and R.
+    own_numbers: u32,
+    /// The options that belong to it.
+    options: Options,
+}
+
+/// `--order` and `--turns`.
+const ORDER_AND_TURNS: Options = Options {
+    colors: false,
+    framing: false,
+    workers: false,
+    order: true,
+    turns: true,
+};
+
 impl Command {
-    /// The command of this name.
-    pub(crate) fn named(name: &str) -> Result<Command, PartsFault>
-        ensures { result ≡ command_of name.now }
+    /// All commands.
+    const ALL: [Command; 2] = [Command::Bracket, Command::Torus];
+
+    /// The command's row of the table.
+    fn row(self) -> Row
+        ensures name { result.name.now ≡ (row_of self).name }
+        ensures own_numbers { result.own_numbers ≡ (row_of self).own_numbers }
+        ensures options { result.options ≡ (row_of self).options }
     {
-        match name {
-            "bracket" => Ok(Command::Bracket),
-            "torus" => Ok(Command::Torus),
-            _ => Err(PartsFault::UnknownCommand),
+        match self {
+            Command::Bracket => Row {
+                name: "bracket",
+                own_numbers: 0,
+                options: ORDER_AND_TURNS,
+            },
+            Command::Torus => Row {
+                name: "torus",
+                own_numbers: 1,
+                options: ORDER_AND_TURNS,
+            },
         }
     }
 
-    /// How many numbers stand before M, A and R.
-    pub(crate) fn own_count(self) -> u32
-        ensures { result ≡ own_count self }
+    /// The command of this name.
+    pub(crate) fn named(name: &str) -> Result<Command, PartsRefusal>
+        ensures { result ≡ command_of name.now }
     {
-        match self {
-            Command::Bracket => 0,
-            Command::Torus => 1,
+        for command in Command::ALL {
+            if name == command.row().name {
+                return Ok(command);
+            }
         }
+        Err(PartsRefusal::UnknownCommand)
+    }
+
+    /// How many numbers stand before M, A and R: at most one.
+    pub(crate) fn own_numbers(self) -> u32
+        ensures { result ≡ (row_of self).own_numbers }
+    {
+        self.row().own_numbers
     }
 
     /// Whether the option belongs to the command.
     fn has_option(self, option: OptionName) -> bool
-        ensures { result ≡ has_option self option }
+        ensures { result ≡ has_option (row_of self).options option }
     {
-        match self {
-            Command::Bracket | Command::Torus => {
-                matches!(option, OptionName::Order | OptionName::Turns)
-            }
+        let options = self.row().options;
+        match option {
+            OptionName::Colors => options.colors,
+            OptionName::Framing => options.framing,
+            OptionName::Workers => options.workers,
+            OptionName::Order => options.order,
+            OptionName::Turns => options.turns,
         }
     }
 
     /// Whether all options among the parts belong to the command, or the first that doesn't.
-    pub(crate) fn check_options(self, parts: &Parts) -> Result<(), PartsFault>
+    pub(crate) fn check_options(self, parts: &Parts) -> Result<(), PartsRefusal>
         ensures { result ≡ check_options self (texts_of parts.now) }
     {
         for option in OptionName::ALL {
             if option.is_given(parts) && !self.has_option(option) {
-                return Err(PartsFault::Option { option });
+                return Err(PartsRefusal::Option { option });
             }
         }
         Ok(())

@@ -1,14 +1,14 @@
 //! Why the parts of a command line ask for nothing.
 
 ghost use Rattle.std.specs.Prelude.{◌≡◌};
-ghost use Rattle.wrt_request.specs.declared.fault.PartsFault.TheVariants.{Memory};
+ghost use Rattle.wrt_request.specs.declared.fault.PartsFault.TheVariants.{Refused, Memory};
 
 use crate::option_name::OptionName;
 use std::alloc::{AllocError, AllocFailed};
 
 /// Why the parts of a command line ask for nothing: the first reason that holds, in this order.
 #[derive(Clone, Copy, Debug, PartialEq, Eq)]
-pub enum PartsFault {
+pub enum PartsRefusal {
     /// The command is none of the program's.
     UnknownCommand,
     /// The command takes so many numbers, and there are more or fewer.
@@ -21,8 +21,23 @@ pub enum PartsFault {
     List { option: OptionName },
     /// The crossings aren't 1 to 256.
     Crossings,
+}
+
+/// Why there is no request: the parts are refused, or memory ran out.
+#[derive(Clone, Copy, Debug, PartialEq, Eq)]
+pub enum PartsFault {
+    /// The parts ask for nothing, for this reason.
+    Refused(PartsRefusal),
     /// Memory ran out.
     Memory,
+}
+
+impl From<PartsRefusal> for PartsFault {
+    ghost from_gives = { λ refusal e. e ≡ Refused refusal };
+
+    fn from(refusal: PartsRefusal) -> PartsFault {
+        PartsFault::Refused(refusal)
+    }
 }
 
 impl From<AllocError> for PartsFault {

@@ -11,13 +11,13 @@ mod option_name;
 mod order;
 mod request;
 
-pub use fault::PartsFault;
+pub use fault::{PartsFault, PartsRefusal};
 pub use laws::{lists_by_spelling, numbers_by_spelling};
 pub use list::NumberList;
 pub use number::decimal;
 pub use option_name::OptionName;
 pub use order::OrderWord;
-pub use request::{Numbers, Request, Task, read_request};
+pub use request::{Numbers, Request, Sweep, Task, read_request};
 
 #[cfg(test)]
 mod tests;

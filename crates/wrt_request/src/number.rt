@@ -1,11 +1,11 @@
 //! Numbers as the program's words write them.
 
-ghost use Rattle.std.specs.Prelude.{◌≡◌, ◌≢◌, length, map, IfOk, IfErr, Ok, Err};
+ghost use Rattle.std.specs.Prelude.{◌≡◌, length, map, IfOk};
 ghost use Rattle.wrt_request.specs.Decimals.{decimal_value, is_marked};
 ghost use Rattle.wrt_request.specs.Numbers.{numbers_of};
-ghost use Rattle.wrt_request.specs.declared.fault.PartsFault.TheVariants.{Memory};
+ghost use Rattle.wrt_request.specs.Stages.{Reads};
 
-use crate::fault::PartsFault;
+use crate::fault::{PartsFault, PartsRefusal};
 use std::alloc::Global;
 
 /// Whether `+` stands first, or a `0` that isn't needed.
@@ -34,21 +34,20 @@ pub(crate) fn read_numbers(
     wanted: u32,
     texts: &[&str],
 ) -> Result<Vec<u64>, PartsFault>
-    ensures numbers { IfOk result (λ numbers. numbers_of wanted (map (λ s. s.now) texts.now) ≡ Ok numbers.items) }
-    ensures fault { IfErr result (λ fault. fault ≢ Memory → numbers_of wanted (map (λ s. s.now) texts.now) ≡ Err fault) }
+    ensures numbers { Reads (λ numbers. numbers.items) (numbers_of wanted (map (λ s. s.now) texts.now)) result }
     ensures as_many { IfOk result (λ numbers. length numbers.items ≡ wanted) }
 {
     if texts.len() != wanted as usize {
-        return Err(PartsFault::Takes { numbers: wanted });
+        return Err(PartsFault::Refused(PartsRefusal::Takes { numbers: wanted }));
     }
     let mut numbers = Vec::new(alloc);
     for text in texts {
         match decimal(text) {
             Some(number) => numbers.push(number)?,
             None => {
-                return Err(PartsFault::Number {
+                return Err(PartsFault::Refused(PartsRefusal::Number {
                     position: numbers.len() as u32 + 1,
-                });
+                }));
             }
         }
     }

@@ -1,10 +1,10 @@
 //! The order in which crossings are taken, as `--order` says it.
 
-ghost use Rattle.std.specs.Prelude.{◌≡◌, ◌≢◌, IfOk, IfErr, Ok, Err, option_map};
+ghost use Rattle.std.specs.Prelude.{option_map};
 ghost use Rattle.wrt_request.specs.Orders.{order_of};
-ghost use Rattle.wrt_request.specs.declared.fault.PartsFault.TheVariants.{Memory};
+ghost use Rattle.wrt_request.specs.Stages.{Reads};
 
-use crate::fault::PartsFault;
+use crate::fault::{PartsFault, PartsRefusal};
 use crate::list::{NumberList, read_list};
 use crate::option_name::OptionName;
 use std::alloc::Global;
@@ -22,8 +22,7 @@ pub enum OrderWord {
 
 /// The order that the value of `--order` says, or that is taken without the option.
 pub(crate) fn read_order(alloc: Global, value: Option<&str>) -> Result<OrderWord, PartsFault>
-    ensures order { IfOk result (λ order. order_of (option_map (λ s. s.now) value.entry) ≡ Ok order) }
-    ensures fault { IfErr result (λ fault. fault ≢ Memory → order_of (option_map (λ s. s.now) value.entry) ≡ Err fault) }
+    ensures { Reads (λ order. order) (order_of (option_map (λ s. s.now) value.entry)) result }
 {
     let Some(text) = value else {
         return Ok(OrderWord::Listed);
@@ -33,9 +32,9 @@ pub(crate) fn read_order(alloc: Global, value: Option<&str>) -> Result<OrderWord
         "greedy" => Ok(OrderWord::Greedy),
         _ => match read_list(alloc, text)? {
             Some(list) => Ok(OrderWord::Given(list)),
-            None => Err(PartsFault::List {
+            None => Err(PartsFault::Refused(PartsRefusal::List {
                 option: OptionName::Order,
-            }),
+            })),
         },
     }
 }

@@ -1,13 +1,13 @@
 //! Requests.
 
-ghost use Rattle.std.specs.Prelude.{◌≡◌, ◌≢◌, ◌+◌, length, Ok, Err, IfOk, IfErr};
+ghost use Rattle.std.specs.Prelude.{◌≡◌, ◌+◌, length, IfOk};
 ghost use Rattle.wrt_parts.specs.Texts.{texts_of};
-ghost use Rattle.wrt_request.specs.Commands.{own_count};
-ghost use Rattle.wrt_request.specs.Requests.{IsInRange, request_of, rest_of, shared_numbers, task_of};
-ghost use Rattle.wrt_request.specs.declared.fault.PartsFault.TheVariants.{Memory};
+ghost use Rattle.wrt_request.specs.Commands.{row_of};
+ghost use Rattle.wrt_request.specs.Requests.{IsInRange, request_of, rest_of, shared_numbers, sweep_of, task_of};
+ghost use Rattle.wrt_request.specs.Stages.{Reads};
 
 use crate::command::Command;
-use crate::fault::PartsFault;
+use crate::fault::{PartsFault, PartsRefusal};
 use crate::number::read_numbers;
 use crate::order::{OrderWord, read_order};
 use std::alloc::Global;
@@ -24,13 +24,22 @@ pub struct Numbers {
     pub level: u64,
 }
 
-/// What is asked for at M, A and R.
-#[derive(Clone, Copy, Debug, PartialEq, Eq)]
+/// The options of a sweep.
+#[derive(Drop, Debug)]
+pub struct Sweep {
+    /// The order in which crossings are taken.
+    pub order: OrderWord,
+    /// Whether the turns are reported too.
+    pub turns: bool,
+}
+
+/// What is asked for at M, A and R, with its own arguments.
+#[derive(Drop, Debug)]
 pub enum Task {
     /// `bracket M A R`: the bracket of the diagram on the input.
-    Bracket,
+    Bracket { sweep: Sweep },
     /// `torus N M A R`: the bracket of the closed braid on two strands with N positive crossings, 1 to 256.
-    Torus { crossings: u32 },
+    Torus { crossings: u32, sweep: Sweep },
 }
 
 /// What the words ask for.
@@ -40,35 +49,43 @@ pub struct Request {
     pub task: Task,
     /// M, A and R.
     pub numbers: Numbers,
-    /// The order in which crossings are taken.
-    pub order: OrderWord,
-    /// Whether the turns are reported too.
-    pub turns: bool,
 }
 
-/// What the command asks for with its own numbers.
-fn read_task(command: Command, numbers: &[u64]) -> Result<Task, PartsFault>
-    requires { length numbers.now ≡ own_count command + 3 }
-    ensures value { result ≡ task_of command numbers.now }
+/// The options of a sweep: an order that isn't given is `listed`.
+fn read_sweep(alloc: Global, parts: &Parts) -> Result<Sweep, PartsFault>
+    ensures { Reads (λ sweep. sweep) (sweep_of (texts_of parts.now)) result }
+{
+    let order = read_order(alloc, parts.order)?;
+    Ok(Sweep {
+        order,
+        turns: parts.turns,
+    })
+}
+
+/// What the command asks for with its own numbers and the values of its options.
+fn read_task(command: Command, numbers: &[u64], sweep: Sweep) -> Result<Task, PartsRefusal>
+    requires { length numbers.now ≡ (row_of command).own_numbers + 3 }
+    ensures value { result ≡ task_of command numbers.now sweep }
     ensures in_range { IfOk result (λ task. IsInRange task) }
 {
     match command {
-        Command::Bracket => Ok(Task::Bracket),
+        Command::Bracket => Ok(Task::Bracket { sweep }),
         Command::Torus => match numbers[0] {
             crossings @ 1..=256 => Ok(Task::Torus {
                 crossings: crossings as u32,
+                sweep,
             }),
-            _ => Err(PartsFault::Crossings),
+            _ => Err(PartsRefusal::Crossings),
         },
     }
 }
 
 /// M, A and R: the numbers behind the command's own.
 fn shared_numbers(command: Command, numbers: &[u64]) -> Numbers
-    requires { length numbers.now ≡ own_count command + 3 }
-    ensures { result ≡ shared_numbers (own_count command) numbers.now }
+    requires { length numbers.now ≡ (row_of command).own_numbers + 3 }
+    ensures { result ≡ shared_numbers (row_of command).own_numbers numbers.now }
 {
-    let own = command.own_count() as usize;
+    let own = command.own_numbers() as usize;
     Numbers {
         modulus: numbers[own],
         root: numbers[own + 1],
@@ -76,39 +93,37 @@ fn shared_numbers(command: Command, numbers: &[u64]) -> Numbers
     }
 }
 
-/// The request of a command with its numbers, by the options.
+/// The request of a command with its numbers, by the options: their values are read in one order for all commands, and
+/// the command's own numbers are looked at last.
 fn read_rest(
     alloc: Global,
     command: Command,
     numbers: &[u64],
     parts: &Parts,
 ) -> Result<Request, PartsFault>
-    requires { length numbers.now ≡ own_count command + 3 }
-    ensures request { IfOk result (λ request. rest_of command numbers.now (texts_of parts.now) ≡ Ok request) }
-    ensures fault { IfErr result (λ fault. fault ≢ Memory → rest_of command numbers.now (texts_of parts.now) ≡ Err fault) }
+    requires { length numbers.now ≡ (row_of command).own_numbers + 3 }
+    ensures request { Reads (λ request. request) (rest_of command numbers.now (texts_of parts.now)) result }
     ensures in_range { IfOk result (λ request. IsInRange request.task) }
 {
     command.check_options(parts)?;
-    let order = read_order(alloc, parts.order)?;
-    let task = read_task(command, numbers)?;
+    let sweep = read_sweep(alloc, parts)?;
+    let task = read_task(command, numbers, sweep)?;
     Ok(Request {
         task,
         numbers: shared_numbers(command, numbers),
-        order,
-        turns: parts.turns,
     })
 }
 
 /// What the parts of a command line ask for, or the first reason against them. `Memory` is want of
 /// memory, and may stand in place of any other answer.
 pub fn read_request(alloc: Global, parts: &Parts) -> Result<Request, PartsFault>
-    ensures request { IfOk result (λ request. request_of (texts_of parts.now) ≡ Ok request) }
-    ensures fault { IfErr result (λ fault. fault ≢ PartsFault.Memory → request_of (texts_of parts.now) ≡ Err fault) }
+    // The definition's request or refusal, but for want of memory.
+    ensures request { Reads (λ request. request) (request_of (texts_of parts.now)) result }
 
     // The crossings that are asked for are 1 to 256.
     ensures in_range { IfOk result (λ request. IsInRange request.task) }
 {
     let command = Command::named(parts.command)?;
-    let numbers = read_numbers(alloc, command.own_count() + 3, &parts.numbers)?;
+    let numbers = read_numbers(alloc, command.own_numbers() + 3, &parts.numbers)?;
     read_rest(alloc, command, &numbers, parts)
 }

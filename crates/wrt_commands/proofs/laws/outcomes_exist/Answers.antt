@@ -1,4 +1,4 @@
-use Rattle.wrt_commands.proofs.OutcomesExist.{outcomes_exist_law}
+use Rattle.wrt_commands.proofs.UniqueOutcomes.{outcomes_exist_law}
 use Rattle.wrt_commands.proofs.laws.outcomes_exist.Goals as goal
 
 pub returns : goal.returns

@@ -2,8 +2,8 @@ use Rattle.std.proofs.Common.{◌≡◌, ◌∙◌, ◌*◌, min, sym, ap, Err, 
 use Rattle.root_quantum.specs.Refusals.{IsRefused}
 use Rattle.root_quantum.specs.declared.form.Form.TheVariants.{All}
 use Rattle.root_quantum.specs.declared.fault.ParamFault.TheVariants as against
-use Rattle.wrt_commands.specs.declared.parameters.ParametersFault.TheVariants.{Order}
-use Rattle.wrt_commands.specs.Outcomes.{level_of}
+use Rattle.wrt_commands.specs.declared.parameters_refusal.ParametersRefusal.TheVariants.{Order}
+use Rattle.wrt_commands.specs.Parameters.{level_of}
 use Rattle.wrt_commands.proofs.ParametersLemmas.{level_law, made_law, refused_parameters}
 use Rattle.wrt_commands.proofs.parameters.read_parameters.Goals as goal
 

@@ -1,0 +1,32 @@
+-- The answers of the commands as answers of a task.
+use Rattle.std.proofs.Common.{String, Global, ◌≡◌, ◌<◌, inl, ℕ, List, length, true, Option, Result, Ok, Err, refl, sym, ap, subst}
+use Rattle.std.specs.Prelude.{MatchResult, string_bytes}
+use Rattle.wrt_request.specs.declared.request.Sweep.{Sweep}
+use Rattle.wrt_request.specs.declared.request.Task.{Task}
+use Rattle.wrt_request.specs.declared.request.Task.TheVariants.{Bracket, Torus}
+use Rattle.wrt_commands.specs.declared.opening.Opened.{Opened}
+use Rattle.wrt_commands.specs.declared.refusal.Refusal.TheVariants as refusals
+use Rattle.wrt_commands.specs.declared.stop.Stop.{Stop}
+use Rattle.wrt_commands.specs.Openings.{is_about_input}
+use Rattle.wrt_commands.specs.Outcomes.{IsTaskOutcome, IsOutcomeAt}
+use Rattle.wrt_commands.specs.Runs.{IsTold, IsUnread, IsStoppedAt}
+use Rattle.wrt_commands.specs.Stops.{Is, Stops, Answers}
+use Rattle.wrt_commands.specs.TooLongRefusals.{past_limit}
+use Rattle.wrt_commands.specs.TorusOutcomes.{torus_outcome}
+use Rattle.wrt_commands.proofs.RunLemmas.{input_stopped, task_stopped}
+
+module _ (asked : Opened) where
+  -- the answer of a command, by what its task comes to
+  pub task_answer : (task : Task) (bytes : List ℕ) → asked.task ≡ task → (result : Result (String Global) Stop) → Answers (IsTaskOutcome asked.params task bytes) string_bytes result
+      → MatchResult result (λ report. IsOutcomeAt (Ok asked) bytes (Ok (string_bytes report))) (IsStoppedAt (Ok asked) bytes)
+  task_answer task bytes is (Ok report) h =
+      let P : Task → Type 0 = λ t. IsTaskOutcome asked.params t bytes (Ok (string_bytes report)) in subst P (sym is) h
+  task_answer task bytes is (Err stop) h =
+      let P : Task → Type 0 = λ t. Stops (IsTaskOutcome asked.params t bytes) stop in task_stopped asked.params asked.task bytes stop (subst P (sym is) h)
+
+  -- a bracket whose input isn't read whole
+  pub bracket_stopped : (sweep : Sweep) (left : Option (List ℕ)) (of stop : Stop) → asked.task ≡ Bracket sweep → stop ≡ of → IsUnread left of
+      → (bytes : List ℕ) × IsTold left bytes × IsStoppedAt (Ok asked) bytes stop
+  bracket_stopped sweep left of stop is same h =
+      let P : List ℕ → Task → Type 0 = λ bytes t. IsTaskOutcome asked.params t bytes (Err (refusals.TooLong past_limit)) in
+      input_stopped (Ok asked) left of stop same h (ap is_about_input is) (λ bytes long. subst (P bytes) (sym is) (inl (long, refl)))

@@ -1,0 +1,36 @@
+//! Arguments of the words that don't fit the diagram.
+
+ghost use Rattle.std.specs.Prelude.{◌≡◌, Some};
+ghost use Rattle.wrt_commands.specs.ArgumentsRefusals.{status_of_arguments, text_of_arguments};
+
+use crate::status::Status;
+use std::fmt;
+
+/// Why an argument doesn't fit the diagram.
+#[derive(Clone, Copy, Debug, PartialEq, Eq)]
+pub enum ArgumentsRefusal {
+    /// The list of the order doesn't name each item that has places once, and nothing else; `items` of
+    /// them have.
+    Order { items: u32 },
+}
+
+impl ArgumentsRefusal {
+    /// The status that the refusal ends with.
+    pub(crate) fn status(&self) -> Status
+        ensures { result ≡ status_of_arguments self.now }
+    {
+        Status::Input
+    }
+}
+
+impl fmt::Display for ArgumentsRefusal {
+    ghost output = { λ refusal. Some (text_of_arguments refusal) };
+
+    fn fmt<W: fmt::Write>(&self, f: &mut fmt::Formatter<W>) -> fmt::Result {
+        match self {
+            ArgumentsRefusal::Order { items } => {
+                write!(f, "order does not name each of {items} items once")
+            }
+        }
+    }
+}

@@ -1,0 +1,16 @@
+//! The statuses of refused values: a limit, or (not yet) a quantity without an inverse.
+
+ghost use Rattle.std.specs.Prelude.{◌≡◌};
+ghost use Rattle.wrt_commands.specs.ValueRefusals.{status_of_value};
+
+use crate::status::Status;
+use wrt_values::ValueRefusal;
+
+/// The status that a refused value ends with.
+pub(crate) fn value_status(refusal: &ValueRefusal) -> Status
+    ensures { result ≡ status_of_value refusal.now }
+{
+    match refusal {
+        ValueRefusal::Wide { .. } | ValueRefusal::Table { .. } => Status::Limit,
+    }
+}

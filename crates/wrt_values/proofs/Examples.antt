@@ -1,0 +1,55 @@
+-- Values, computed at 41, 2, 5.
+use Rattle.std.proofs.Common.{◌≡◌, ℕ, List, [], ◌∷◌, None, Ok, Err, refl}
+use Rattle.std.specs.List.{range_with_len}
+use Rattle.ring_identities.specs.Residues.{residue}
+use Rattle.ring_identities.specs.Powers.{power, order_up_to}
+use Rattle.graph_parts.specs.Parts.{part, part_count}
+use Rattle.state_sums.specs.Networks.{Node}
+use Rattle.state_sums.specs.StateSums.{value}
+use Rattle.root_quantum.specs.Parameters.{Parameters}
+use Rattle.root_quantum.specs.Refusals.{refusal}
+use Rattle.root_quantum.specs.QuantumNumbers.{inverse_root, loop_value}
+use Rattle.root_quantum.proofs.RefusalProofs.{accepted_law}
+use Rattle.root_quantum.specs.declared.form.Form.TheVariants.{All}
+use Rattle.pd_reader.specs.declared.item.Item.{Item}
+use Rattle.pd_reader.specs.declared.item.Item.TheVariants.{X, Loop}
+use Rattle.diagram_brackets.specs.Brackets.{bracket}
+use Rattle.frontier_laws.specs.Orders.{listed_of, greedy_of, given_of}
+use Rattle.wrt_values.specs.declared.fault.ValueRefusal.TheVariants.{Wide}
+use Rattle.wrt_values.specs.Values.{value_of, bracket_value}
+
+no_refusal : refusal All 41 2 5 ≡ None
+unfolding refusal order_up_to power residue
+no_refusal = refl
+
+worked : Parameters
+worked = record { modulus = 41; root = 2; level = 5; form = All; meets = (accepted_law All 41 2 5).1 no_refusal }
+
+-- the left-handed trefoil
+abbrev trefoil_items : List Item
+trefoil_items = X (1 ∷ 4 ∷ 2 ∷ 5 ∷ []) ∷ X (3 ∷ 6 ∷ 4 ∷ 1 ∷ []) ∷ X (5 ∷ 2 ∷ 6 ∷ 3 ∷ []) ∷ []
+
+trefoil : bracket_value listed_of worked trefoil_items ≡ Ok (record { residue = 10; turns = 10 })
+unfolding worked bracket value loop_value inverse_root power residue part_count part
+trefoil = refl
+
+trefoil_greedily : bracket_value greedy_of worked trefoil_items ≡ Ok (record { residue = 10; turns = 10 })
+unfolding worked bracket value loop_value inverse_root power residue part_count part
+trefoil_greedily = refl
+
+trefoil_given : bracket_value (given_of (3 ∷ 1 ∷ 2 ∷ [])) worked trefoil_items ≡ Ok (record { residue = 10; turns = 10 })
+unfolding worked bracket value loop_value inverse_root power residue part_count part
+trefoil_given = refl
+
+-- nothing takes no turn
+unknot : bracket_value listed_of worked (Loop 1 ∷ []) ≡ Ok (record { residue = 6; turns = 0 })
+unfolding worked bracket value loop_value inverse_root power residue part_count part
+unknot = refl
+
+-- behind the first of two nodes on the same 26 names all of these are open
+abbrev broad : Node
+broad = record { group = 1; ends = range_with_len 1 26; terms = [] }
+
+wide : value_of 7 (broad ∷ broad ∷ []) 3 ≡ Err (Wide record { colouring = 3; step = 1 } 26)
+unfolding part
+wide = refl

@@ -1,0 +1,2 @@
+pub mod OneResidue
+mod Examples

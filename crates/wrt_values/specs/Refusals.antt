@@ -1,0 +1,17 @@
+-- The lines of refused values. (This project's own.)
+--
+--     text_of_step step          the step of a sweep, as a line names it
+--     text_of_refusal refusal    the line of the refusal
+use Rattle.std.specs.Prelude.{ℕ, List, ◌++◌, codes, decimal}
+use Rattle.wrt_values.specs.declared.fault.SweepStep.{SweepStep}
+use Rattle.wrt_values.specs.declared.fault.ValueRefusal.{ValueRefusal}
+use Rattle.wrt_values.specs.declared.fault.ValueRefusal.TheVariants.{Wide, Table}
+
+-- The step of a sweep.
+abbrev pub text_of_step : SweepStep → List ℕ
+text_of_step step = codes "colouring " ++ decimal step.colouring ++ codes ": step " ++ decimal step.step
+
+-- The line of the refusal.
+abbrev pub text_of_refusal : ValueRefusal → List ℕ
+text_of_refusal (Wide step ends) = text_of_step step ++ codes " has " ++ decimal ends ++ codes " open ends"
+text_of_refusal (Table step) = text_of_step step ++ codes " has more than 262144 pairings"
