@@ -1,6 +1,6 @@
--- A term that pairs all ends is no misfit, and straight strands pair as many points as there are ends.
+-- Straight strands pair as many points as there are ends, and so does a vertex.
 --
--- Others cite: no_misfit, straight_length.
+-- Others cite: straight_length, vertex_short, vertex_ends.
 use Rattle.std.proofs.Common.{◌≡◌, ℕ, ◌+◌, ◌==◌, true, Some, List, [], ◌∷◌, ◌++◌, length, sym, ap, arith, subst, ◌*◌, ◌≤◌, length-append}
 use Rattle.std.proofs.lemmas.Bool.{eq-eqb}
 use Rattle.state_sums.specs.Networks.{Term, IsPairing}
@@ -10,12 +10,6 @@ use Rattle.cables.specs.CableNodes.{vertex_partner, joining}
 use Rattle.cables.specs.Cables.{IsAdmissible}
 use Rattle.cables.proofs.CableIsNodes.{IsPairing-vertex, vertex_length}
 use Rattle.strand_algebra.proofs.PairingLaws.{straight_noncrossing}
-
-pub no_misfit : (ends : ℕ) (term : Term) → length term.partner ≡ ends → (i : ℕ) → first_misfit ends (term ∷ []) ≡ Some i → ⊥
-no_misfit ends term same i h =
-    let t : (length term.partner == ends) ≡ true = eq-eqb (length term.partner) ends same in
-    let none = rw t at h in
-    absurd (cc)
 
 pub straight_length : (xs ys : List ℕ) → length ys ≡ length xs → length (straight (length xs)) ≡ length (xs ++ ys)
 straight_length xs ys same =

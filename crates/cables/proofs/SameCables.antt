@@ -21,11 +21,11 @@ pub record AreAlike (strands others : Strands) (label : ℕ) : Type 0 where
   pub second : strands.second label ≡ others.second label
   pub boxed : strands.boxed label ≡ others.boxed label
 
-all_front : (P : ℕ → Type 0) (xs ys : List ℕ) → AllByRecursion P (xs ++ ys) → AllByRecursion P xs
+pub all_front : (P : ℕ → Type 0) (xs ys : List ℕ) → AllByRecursion P (xs ++ ys) → AllByRecursion P xs
 all_front P [] ys a = tt
 all_front P (x ∷ xs) ys a = (a.0, all_front P xs ys a.1)
 
-all_back : (P : ℕ → Type 0) (xs ys : List ℕ) → AllByRecursion P (xs ++ ys) → AllByRecursion P ys
+pub all_back : (P : ℕ → Type 0) (xs ys : List ℕ) → AllByRecursion P (xs ++ ys) → AllByRecursion P ys
 all_back P [] ys a = a
 all_back P (x ∷ xs) ys a = all_back P xs ys a.1
 
@@ -120,7 +120,6 @@ module _ (strands others : Strands) (same_box : strands.box ≡ others.box) wher
   same_loops (Y slots ∷ items) h = same_loops items (all_back (AreAlike strands others) slots (labels net_item_labels items) h)
   same_loops (Loop label ∷ items) h = ap₂ (λ x y. loops_at x + y) h.0.first (same_loops items h.1.1)
 
-  -- THE SAME CABLE
   -- ONE CABLE
   pub same_cable : (p : Parameters) (items : List NetItem) → AllByRecursion (AreAlike strands others) (labels net_item_labels items) → cable p strands items ≡ cable p others items
   same_cable p items h = ap₂ (λ ns k. record { nodes = ns; free_loops = k }) (same_nodes p items (start items) h) (same_loops items h)

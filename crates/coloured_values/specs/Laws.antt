@@ -4,7 +4,7 @@
 --     HasColours items colours        one colour for each component, each at most 8
 --     IsAddedLabel items label        a label of a diagram past all labels of the items
 --     blown_up diagram label e        the diagram with a loop of that label, framed e
-use Rattle.std.specs.Prelude.{◌≡◌, ℕ, ◌*◌, ◌%◌, ◌<◌, ◌≤◌, ◌⊎◌, ℤ, pos, negsuc, List, [], ◌∷◌, ◌++◌, length}
+use Rattle.std.specs.Prelude.{◌≡◌, ℕ, ◌*◌, ◌%◌, ◌<◌, ◌≤◌, ◌⊎◌, ℤ, pos, negsuc, nat_le, List, [], ◌∷◌, ◌++◌, length}
 use Rattle.std.specs.List.{AllByRecursion}
 use Rattle.root_quantum.specs.Parameters.{Parameters}
 use Rattle.root_quantum.specs.Colours.{form_colours}
@@ -16,8 +16,9 @@ use Rattle.pd_reader.specs.Diagrams.{labels, IsDiagram}
 use Rattle.planar_check.specs.Components.{greatest, least_labels}
 use Rattle.diagram_brackets.specs.Brackets.{bracket}
 use Rattle.cables.specs.Laws.{IsSmallNetwork}
-use Rattle.cables.specs.Nets.{HasProjector}
-use Rattle.coloured_values.specs.Coloured.{cabled, coloured}
+use Rattle.cables.specs.Cables.{as_net}
+use Rattle.cables.specs.Nets.{HasProjector, cabled_net}
+use Rattle.coloured_values.specs.Coloured.{colour_of, is_boxed, cabled, coloured}
 use Rattle.planar_check.specs.Framings.{FramedDiagram}
 use Rattle.inertia_laws.specs.Certificates.{bordered}
 use Rattle.coloured_values.specs.Surgery.{kirby, omega_sum, matrix_of, component_count, surgery, HasSurgeryValue}
@@ -35,6 +36,13 @@ pub record IsAddedLabel (items : List Item) (label : ℕ) : Type 0 where
 -- The cable of a diagram is a network within the limits of the types.
 abbrev pub CabledDiagramIsNetworkLaw : Type 0
 CabledDiagramIsNetworkLaw = (p : Parameters) (items : List Item) (colours : List ℕ) → IsDiagram items → HasColours items colours → IsSmallNetwork p.modulus (cabled p items colours)
+
+-- The net of a link diagram, each label with the colour of its component, has the diagram's cable where both have the same
+-- boxes: so where no colour is above 1, and where there is no crossing.
+abbrev pub NetOfDiagramLaw : Type 0
+NetOfDiagramLaw =
+    (p : Parameters) (items : List Item) (colours : List ℕ) → AllByRecursion (λ label. is_boxed items colours label ≡ nat_le 2 (colour_of items colours label)) (labels item_labels items) →
+    cabled_net p (as_net items) (colour_of items colours) ≡ cabled p items colours
 
 -- With all colours 1 the value is the bracket.
 abbrev pub AllColoursOneLaw : Type 0

@@ -1,11 +1,16 @@
 //! The laws of coloured diagrams and Kirby sums: each function has an empty body, and its contract is the law. They are stated in
 //! `specs/Laws.antt`.
 
-ghost use Rattle.coloured_values.specs.Laws.{CabledDiagramIsNetworkLaw, AllColoursOneLaw, AddedComponentLaw, AddedFramedLoopLaw, BlownUpMatrixLaw, BlowUpKeepsSurgeryLaw};
+ghost use Rattle.coloured_values.specs.Laws.{CabledDiagramIsNetworkLaw, NetOfDiagramLaw, AllColoursOneLaw, AddedComponentLaw, AddedFramedLoopLaw, BlownUpMatrixLaw, BlowUpKeepsSurgeryLaw};
 
 /// The cable of a diagram is a network within the limits of the types.
 pub fn cabled_diagram_is_network()
     ensures { CabledDiagramIsNetworkLaw }
+{}
+
+/// The net of a diagram, with the colours of the components, has the diagram's cable where both have the same boxes.
+pub fn net_of_diagram()
+    ensures { NetOfDiagramLaw }
 {}
 
 /// With all colours 1 the value is the bracket.

@@ -5,5 +5,5 @@ mod laws;
 
 pub use laws::{
     added_component, added_framed_loop, all_colours_one, blow_up_keeps_surgery, blown_up_matrix,
-    cabled_diagram_is_network,
+    cabled_diagram_is_network, net_of_diagram,
 };

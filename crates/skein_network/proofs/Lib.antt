@@ -1,5 +1,4 @@
 pub mod SeenLabels
-pub mod Misfits
 pub mod BoxLists
 pub mod ItemNodes
 pub mod ItemSteps

@@ -11,6 +11,7 @@ use Rattle.pd_reader.specs.declared.item.NetItem.TheVariants.{X, Y, Loop}
 use Rattle.pd_reader.specs.Items.{net_item_labels}
 use Rattle.pd_reader.specs.Diagrams.{labels, IsLabel}
 use Rattle.cables.specs.Strands.{Strands}
+use Rattle.cables.proofs.SameCables.{all_front, all_back}
 use Rattle.skein_network.specs.Progress.{loops_of_item}
 use Rattle.cables.specs.Cables.{Standing, passed, item_nodes, cable_nodes, loop_count, loops_at, count_placed, start, Fits}
 
@@ -92,14 +93,6 @@ along_end p strands items i nodes free st none along = (
 )
 
 -- ---- what is known of an item
-all_front : (P : ℕ → Type 0) (xs ys : List ℕ) → AllByRecursion P (xs ++ ys) → AllByRecursion P xs
-all_front P [] ys a = tt
-all_front P (x ∷ xs) ys a = (a.0, all_front P xs ys a.1)
-
-all_back : (P : ℕ → Type 0) (xs ys : List ℕ) → AllByRecursion P (xs ++ ys) → AllByRecursion P ys
-all_back P [] ys a = a
-all_back P (x ∷ xs) ys a = all_back P xs ys a.1
-
 all_low : (ls : List ℕ) → AllByRecursion IsLabel ls → All (λ label. label ≤ 2000000) ls
 all_low [] a = All-nil (λ label. label ≤ 2000000)
 all_low (x ∷ ls) a = All-cons (λ label. label ≤ 2000000) x ls a.0.high (all_low ls a.1)

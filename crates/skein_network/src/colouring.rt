@@ -17,7 +17,7 @@ pub(crate) struct Colouring<'a> {
     pub params: &'a Params,
     /// The edges.
     pub edges: Vec<Edge>,
-    /// The projectors, at most one for each colour.
+    /// A projector for each colour of a box.
     pub projectors: Vec<Found<'a>>,
 }
 

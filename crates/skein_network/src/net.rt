@@ -61,10 +61,8 @@ fn checked_edges(
     let names = net_labels(alloc, net)?;
     check_colours(colours, names.len() as u32, top)?;
     let edges = net_edges(alloc, &names, colours)?;
-    match check_fit(&edges, net.net().items()) {
-        Ok(()) => Ok(edges),
-        Err(fault) => Err(fault),
-    }
+    check_fit(&edges, net.net().items())?;
+    Ok(edges)
 }
 
 /// The cable of a net (Kauffman and Lins): one colour for each label, in increasing order of labels; each edge with places

@@ -103,6 +103,9 @@ fn no_inverse(rt: HostRuntime) -> Result<(), Fail> {
         index: 1,
         common: 17,
     };
-    assert_eq!(rt; cable(rt.alloc(), &diagram, &[2], &table, &mut notes).err(), Some(fault));
+    assert_eq!(rt;
+        cable(rt.alloc(), &diagram, &[2], &table, &mut notes).err(),
+        Some(fault)
+    );
     Ok(())
 }

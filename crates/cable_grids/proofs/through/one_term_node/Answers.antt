@@ -1,5 +1,7 @@
-use Rattle.std.proofs.Common.{◌<◌, length, ap, ◌∙◌, Err, arith}
-use Rattle.cable_grids.proofs.OneTerm.{no_misfit}
+use Rattle.std.proofs.Common.{◌≡◌, ◌<◌, [], ◌∷◌, length, ap, ◌∙◌, Err, arith}
+use Rattle.std.proofs.lemmas.List.Elements.{All-cons, All-nil}
+use Rattle.state_sums.specs.Networks.{Term}
+use Rattle.cable_grids.proofs.Misfits.{no_misfits}
 use Rattle.cable_grids.proofs.through.one_term_node.Goals as goal
 
 pub unreachable-requires : goal.unreachable-requires
@@ -18,4 +20,6 @@ unreachable-requires-in-Err-TooMany c =
 pub unreachable-requires-in-Err-Ends : goal.unreachable-requires-in-Err-Ends
 unreachable-requires-in-Err-Ends c =
     let e = (c.new.ensures.misfit c.in-Err-Ends.field-0-0).0 (c.in-Err-Ends.is ∙ ap Err c.in-Err-Ends.field-0-is) in
-    no_misfit (length c.args.ends.now) record { weight = 1; partner = c.args.pairing } c.requires.whole c.in-Err-Ends.field-0-0 e.2
+    let term : Term = record { weight = 1; partner = c.args.pairing } in
+    let Pairs : Term → Type 0 = λ t. length t.partner ≡ length c.args.ends.now in
+    no_misfits (length c.args.ends.now) (term ∷ []) (All-cons Pairs term [] c.requires.whole (All-nil Pairs)) c.in-Err-Ends.field-0-0 e.2

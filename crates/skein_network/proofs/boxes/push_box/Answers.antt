@@ -1,6 +1,6 @@
 use Rattle.std.proofs.Common.{◌≡◌, ◌+◌, length, ℕ, ap, ◌∙◌, Err, arith, subst, All, length-append}
 use Rattle.state_sums.specs.Networks.{Term}
-use Rattle.skein_network.proofs.Misfits.{no_misfits}
+use Rattle.cable_grids.proofs.Misfits.{no_misfits}
 use Rattle.skein_network.proofs.boxes.push_box.Goals as goal
 
 pub unreachable-requires : goal.unreachable-requires

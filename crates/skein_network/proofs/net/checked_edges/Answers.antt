@@ -1,4 +1,5 @@
 use Rattle.std.proofs.Common.{◌≡◌, ◌≤◌, length, None, Some, inr, ap, ap₂, sym, subst, ◌∙◌, arith}
+use Rattle.std.proofs.lemmas.Result.{err_from_is_err_and}
 use Rattle.skein_network.specs.Edges.{colour_at, edges_of}
 use Rattle.skein_network.specs.Refusals.{net_labels, net_colour, colour_refusal, fit_refusal}
 use Rattle.skein_network.proofs.ListColours.{few_colours, not_refused, or_second}
@@ -18,8 +19,8 @@ check_fit-requires-clause-few c =
     let few = few_colours colours c.in_ok-edges.edges.items c.args.top coloured many.1 c.requires in
     subst (λ es. (label : _) → colour_at es label ≤ 8) (sym c.deref-2.ensures.value) few
 
-pub returns-in-Ok-clause-fits : goal.returns-in-Ok-clause-fits
-returns-in-Ok-clause-fits c =
+pub returns-clause-fits : goal.returns-clause-fits
+returns-clause-fits c =
     let items = c.args.net.now in
     let colours = c.args.colours.now in
     let labels = c.in_ok-names.ensures.labels in
@@ -29,11 +30,11 @@ returns-in-Ok-clause-fits c =
     let none = sym (ap (λ n. colour_refusal c.args.top n colours) long) ∙ c.in_ok-check_colours.ensures.ok in
     let many = not_refused c.args.top (length (net_labels items)) colours none in
     let path = edge_colours items colours c.in_ok-names.names.items c.in_ok-edges.edges.items labels many.0 (c.in_ok-edges.ensures ∙ ap (λ ns. edges_of ns colours) c.deref.ensures.value) in
-    let fit = sym (ap₂ fit_refusal (ap colour_at c.deref-2.ensures.value ∙ path) (c.items.ensures.items ∙ c.net.ensures.net)) ∙ (c.in-Ok.ensures {u = tt}).ok in
+    let fit = sym (ap₂ fit_refusal (ap colour_at c.deref-2.ensures.value ∙ path) (c.items.ensures.items ∙ c.net.ensures.net)) ∙ c.in_ok-check_fit.ensures.ok in
     or_second (colour_refusal c.args.top (length (net_labels items)) colours) (fit_refusal (net_colour items colours) items) none ∙ fit
 
-pub returns-clause-refused : goal.returns-clause-refused
-returns-clause-refused c =
+pub returns-in_err-check_fit-clause-refused : goal.returns-in_err-check_fit-clause-refused
+returns-in_err-check_fit-clause-refused c =
     let items = c.args.net.now in
     let colours = c.args.colours.now in
     let labels = c.in_ok-names.ensures.labels in
@@ -43,5 +44,6 @@ returns-clause-refused c =
     let none = sym (ap (λ n. colour_refusal c.args.top n colours) long) ∙ c.in_ok-check_colours.ensures.ok in
     let many = not_refused c.args.top (length (net_labels items)) colours none in
     let path = edge_colours items colours c.in_ok-names.names.items c.in_ok-edges.edges.items labels many.0 (c.in_ok-edges.ensures ∙ ap (λ ns. edges_of ns colours) c.deref.ensures.value) in
-    let fit = sym (ap₂ fit_refusal (ap colour_at c.deref-2.ensures.value ∙ path) (c.items.ensures.items ∙ c.net.ensures.net)) ∙ (c.in-Err.ensures {u = tt}).refused in
-    inr (or_second (colour_refusal c.args.top (length (net_labels items)) colours) (fit_refusal (net_colour items colours) items) none ∙ fit)
+    let fit = sym (ap₂ fit_refusal (ap colour_at c.deref-2.ensures.value ∙ path) (c.items.ensures.items ∙ c.net.ensures.net)) ∙ c.in_err-check_fit.ensures.refused in
+    let p = err_from_is_err_and c.from_residual-in_err-check_fit.result c.from_residual-in_err-check_fit.ensures.1 in
+    rw (p.1, p.2) (inr (or_second (colour_refusal c.args.top (length (net_labels items)) colours) (fit_refusal (net_colour items colours) items) none ∙ fit))
