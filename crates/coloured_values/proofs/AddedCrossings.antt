@@ -21,7 +21,7 @@ use Rattle.planar_check.proofs.Crossings.{places_four, places_labels}
 use Rattle.planar_check.proofs.CrossingComponents.{crossings_within}
 use Rattle.coloured_values.proofs.AddedComponents.{component_least-added, number_of-added}
 
-crossings-added : (items : List Item) (label : ℕ) → crossings_of (items ++ Loop label ∷ []) ≡ crossings_of items
+pub crossings-added : (items : List Item) (label : ℕ) → crossings_of (items ++ Loop label ∷ []) ≡ crossings_of items
 crossings-added [] label = refl
 crossings-added (X slots ∷ items) label =
     elim (nat_lt 0 (length slots)) as (λ b. cond b (slots ∷ crossings_of (items ++ Loop label ∷ [])) (crossings_of (items ++ Loop label ∷ [])) ≡ cond b (slots ∷ crossings_of items) (crossings_of items)) [

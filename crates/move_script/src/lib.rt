@@ -6,11 +6,13 @@ mod classes;
 mod crossings;
 mod curl;
 mod edges;
+mod framed;
 mod moved;
 mod pull;
 mod push;
 mod slide;
 
+pub use framed::{apply_framed, blow_up};
 pub use moved::{GREATEST_LABEL, Moved, apply};
 
 #[cfg(test)]
