@@ -15,7 +15,7 @@ use Rattle.planar_check.specs.Components.{strand_edges, item_strands, least_labe
 use Rattle.planar_check.specs.declared.sign.Sign.{Sign}
 use Rattle.planar_check.specs.declared.sign.Sign.TheVariants as signs
 use Rattle.diagram_moves.specs.Laws.{IsPairedDiagram}
-use Rattle.move_results.specs.Laws.{ComponentsLaw}
+use Rattle.move_results.specs.Laws.{ComponentsKeptLaw}
 use Rattle.diagram_moves.specs.Moves.{curl_slots, curled_loop}
 use Rattle.diagram_moves.specs.Rewriting.{crossing_labels, fresh}
 use Rattle.diagram_moves.specs.declared.factor.Factor.{Factor}
@@ -260,10 +260,10 @@ blown_components items pd =
     ∙ ap (λ z. filter q (range_with_len 0 n) ++ z ∷ []) (let e : 0 + n ≡ n = omega arith in e)
 
 -- THE COMPONENTS OF A RESULT
-pub components : ComponentsLaw
-components items (R2 e f) moved pd h = kept_components items moved.items pd (reached items (R2 e f) moved refl h).0 ∙ sym (append-nil (least_labels items))
-components items (R2Undo c g) moved pd h = kept_components items moved.items pd (reached items (R2Undo c g) moved refl h).0 ∙ sym (append-nil (least_labels items))
-components items (R3 c g f) moved pd h = kept_components items moved.items pd (reached items (R3 c g f) moved refl h).0 ∙ sym (append-nil (least_labels items))
-components items (Curl e sign) moved pd h = kept_components items moved.items pd (reached items (Curl e sign) moved refl h).0 ∙ sym (append-nil (least_labels items))
-components items (CurlUndo c) moved pd h = kept_components items moved.items pd (reached items (CurlUndo c) moved refl h).0 ∙ sym (append-nil (least_labels items))
-components items (BlowUp sign) moved pd h = ap least_labels (blown_up items sign moved h) ∙ blown_components items pd
+pub components_kept : ComponentsKeptLaw
+components_kept items (R2 e f) moved pd h = kept_components items moved.items pd (reached items (R2 e f) moved refl h).0 ∙ sym (append-nil (least_labels items))
+components_kept items (R2Undo c g) moved pd h = kept_components items moved.items pd (reached items (R2Undo c g) moved refl h).0 ∙ sym (append-nil (least_labels items))
+components_kept items (R3 c g f) moved pd h = kept_components items moved.items pd (reached items (R3 c g f) moved refl h).0 ∙ sym (append-nil (least_labels items))
+components_kept items (Curl e sign) moved pd h = kept_components items moved.items pd (reached items (Curl e sign) moved refl h).0 ∙ sym (append-nil (least_labels items))
+components_kept items (CurlUndo c) moved pd h = kept_components items moved.items pd (reached items (CurlUndo c) moved refl h).0 ∙ sym (append-nil (least_labels items))
+components_kept items (BlowUp sign) moved pd h = ap least_labels (blown_up items sign moved h) ∙ blown_components items pd

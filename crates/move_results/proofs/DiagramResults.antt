@@ -19,6 +19,8 @@ use Rattle.diagram_moves.specs.Steps.{Moved}
 use Rattle.move_results.proofs.ClosedComponents.{pulled_contracts, uncurled_contracts}
 use Rattle.move_results.proofs.ComponentLaws as loops
 use Rattle.move_results.proofs.CurledComponents as curls
+use Rattle.planar_check.specs.Components.{greatest}
+use Rattle.diagram_moves.proofs.PlaceLemmas.{fresh_above}
 use Rattle.diagram_moves.proofs.Curling.{new_two}
 use Rattle.diagram_moves.proofs.NoNumbers.{nothing}
 use Rattle.list_lemmas.proofs.Times.{member_of_times, times_none, times_of_member}
@@ -77,36 +79,49 @@ label_of (l ∷ ls) h x m = ⊎_elim (λ e. subst IsLabel (sym (eqb-true x l e))
 in_range : (items : List Item) → IsDiagram items → fresh items + 3 ≤ 2000000 → (z : ℕ) → OldOrNew items z → IsLabel z
 in_range items is room z old = ⊎_elim (λ m. label_of (labels item_labels items) is.in_range z m) (λ h. record { low = (let b = h.0 in omega (arith, b)); high = (let t = h.1 in omega (arith, t, room)) }) old
 
-again : (items : List Item) (step : Step) (moved : Moved) → IsDiagram items → fresh items + 3 ≤ 2000000 → move items step ≡ Ok moved → length moved.items ≤ 256 →
-    ((z : ℕ) → is_member ◌==◌ (labels item_labels moved.items) z ≡ true → OldOrNew items z) → IsDiagram moved.items
-again items step moved is room h few old =
-    let pd : IsPairedDiagram items = record { sizes = is.sizes; twice = is.twice } in
-    let paired = paired_again items step moved pd h in
-    record {
-      few = few;
-      sizes = paired.sizes;
-      in_range = each_label (labels item_labels moved.items) (λ x m. in_range items is room x (old x m));
-      twice = paired.twice;
-    }
-
 kept : (items : List Item) → IsDiagram items → IsPairedDiagram items
 kept items is = record { sizes = is.sizes; twice = is.twice }
 
+-- each label of a result is one of the diagram's, or one of four new ones
+pub label_of_result : (items : List Item) (step : Step) (moved : Moved) → IsPairedDiagram items → move items step ≡ Ok moved → (z : ℕ) → is_member ◌==◌ (labels item_labels moved.items) z ≡ true → OldOrNew items z
+label_of_result items (R2 e f) moved pd h = old_or_new items moved.items pd (reached items (R2 e f) moved refl h).0
+label_of_result items (R2Undo c g) moved pd h = old_or_new items moved.items pd (reached items (R2Undo c g) moved refl h).0
+label_of_result items (R3 c g f) moved pd h = old_or_new items moved.items pd (reached items (R3 c g f) moved refl h).0
+label_of_result items (Curl e sign) moved pd h = old_or_new items moved.items pd (reached items (Curl e sign) moved refl h).0
+label_of_result items (CurlUndo c) moved pd h = old_or_new items moved.items pd (reached items (CurlUndo c) moved refl h).0
+label_of_result items (BlowUp sign) moved pd h = λ z m.
+    let n = fresh items in
+    let there = ap (λ its. is_member ◌==◌ (labels item_labels its) z) (blown_up items sign moved h) in
+    from_total items (items ++ item.Loop n ∷ []) z (cond (z == n) 1 0) (loops.blown_labels items n z) (of_one n z) (sym there ∙ m)
+
+few_items : (items : List Item) (step : Step) (moved : Moved) → move items step ≡ Ok moved → length moved.items ≤ 256
+few_items items (R2 e f) moved h = (reached items (R2 e f) moved refl h).1
+few_items items (R2Undo c g) moved h = (reached items (R2Undo c g) moved refl h).1
+few_items items (R3 c g f) moved h = (reached items (R3 c g f) moved refl h).1
+few_items items (Curl e sign) moved h = (reached items (Curl e sign) moved refl h).1
+few_items items (CurlUndo c) moved h = (reached items (CurlUndo c) moved refl h).1
+few_items items (BlowUp sign) moved h = blown_few items sign moved h
+
+greatest_at_most : (ls : List ℕ) (n : ℕ) → ((z : ℕ) → is_member ◌==◌ ls z ≡ true → z ≤ n) → greatest ls ≤ n
+greatest_at_most [] n h = omega arith
+greatest_at_most (l ∷ ls) n h =
+    let here = h l (or_left (l == l) (is_member ◌==◌ ls l) (eq-eqb l l refl)) in
+    let rest = greatest_at_most ls n (λ z m. h z (or_right (z == l) (is_member ◌==◌ ls z) m)) in
+    omega (arith, here, rest)
+
+-- A STEP RAISES THE GREATEST LABEL BY AT MOST FOUR
+pub greatest_grows : (items : List Item) (step : Step) (moved : Moved) → IsPairedDiagram items → move items step ≡ Ok moved → greatest (labels item_labels moved.items) ≤ greatest (labels item_labels items) + 4
+greatest_grows items step moved pd h =
+    greatest_at_most (labels item_labels moved.items) (greatest (labels item_labels items) + 4)
+    (λ z m. ⊎_elim (λ old. let low = fresh_above items z old in omega (arith, low)) (λ new. omega (arith, new.1)) (label_of_result items step moved pd h z m))
+
 -- A DIAGRAM AGAIN
 pub diagram_again : DiagramAgainLaw
-diagram_again items (R2 e f) moved is room h =
-    let r = reached items (R2 e f) moved refl h in again items (R2 e f) moved is room h r.1 (old_or_new items moved.items (kept items is) r.0)
-diagram_again items (R2Undo c g) moved is room h =
-    let r = reached items (R2Undo c g) moved refl h in again items (R2Undo c g) moved is room h r.1 (old_or_new items moved.items (kept items is) r.0)
-diagram_again items (R3 c g f) moved is room h =
-    let r = reached items (R3 c g f) moved refl h in again items (R3 c g f) moved is room h r.1 (old_or_new items moved.items (kept items is) r.0)
-diagram_again items (Curl e sign) moved is room h =
-    let r = reached items (Curl e sign) moved refl h in again items (Curl e sign) moved is room h r.1 (old_or_new items moved.items (kept items is) r.0)
-diagram_again items (CurlUndo c) moved is room h =
-    let r = reached items (CurlUndo c) moved refl h in again items (CurlUndo c) moved is room h r.1 (old_or_new items moved.items (kept items is) r.0)
-diagram_again items (BlowUp sign) moved is room h =
-    let n = fresh items in
-    again items (BlowUp sign) moved is room h (blown_few items sign moved h)
-    (λ z m.
-    let there = ap (λ its. is_member ◌==◌ (labels item_labels its) z) (blown_up items sign moved h) in
-    from_total items (items ++ item.Loop n ∷ []) z (cond (z == n) 1 0) (loops.blown_labels items n z) (of_one n z) (sym there ∙ m))
+diagram_again items step moved is room h =
+    let paired = paired_again items step moved (kept items is) h in
+    record {
+      few = few_items items step moved h;
+      sizes = paired.sizes;
+      in_range = each_label (labels item_labels moved.items) (λ x m. in_range items is room x (label_of_result items step moved (kept items is) h x m));
+      twice = paired.twice;
+    }

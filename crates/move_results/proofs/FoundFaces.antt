@@ -2,7 +2,7 @@
 use Rattle.std.proofs.Common.{◌≡◌, ◌≢◌, ℕ, ◌+◌, ◌%◌, false, ◌&&◌, ◌==◌, List, Some, sym, ◌∙◌, arith}
 use Rattle.std.proofs.lemmas.Bool.{eq-eqb, eqb-true, and_parts}
 use Rattle.pd_reader.specs.declared.item.Item.{Item}
-use Rattle.move_results.specs.Laws.{place, BigonFaceLaw, TriangleFaceLaw}
+use Rattle.move_results.specs.Laws.{place, BigonFacesLaw, TriangleFacesLaw}
 use Rattle.diagram_moves.specs.Rewriting.{slot, crossing_at}
 use Rattle.move_results.proofs.FaceSteps.{face_step, number_from}
 
@@ -17,7 +17,7 @@ places_apart items c d s t here there found also apart e =
 come_round : (c s : ℕ) → place c (s + 3 + 1) ≡ place c s
 come_round c s = omega arith
 
-pub bigon_faces : BigonFaceLaw
+pub bigon_faces : BigonFacesLaw
 bigon_faces items c d s t here there pd found also apart =
     let back_again : d ≢ c = λ e. apart (sym e) in
     let one = face_step items c d s t here there pd found also (places_apart items c d s t here there found also apart) in
@@ -33,7 +33,7 @@ bigon_faces items c d s t here there pd found also apart =
           grind (arith, a, b, e)),
     )
 
-pub triangle_faces : TriangleFaceLaw
+pub triangle_faces : TriangleFacesLaw
 triangle_faces items c d f s t u here there beyond pd found also too cd df cf =
     let fc : f ≢ c = λ e. cf (sym e) in
     let one = face_step items c d s t here there pd found also (places_apart items c d s t here there found also cd) in

@@ -36,8 +36,8 @@ added (Curl e sign) items = []
 added (CurlUndo c) items = []
 
 -- The components of the result have the least labels of those before, in the same order, and `BlowUp` adds one at the end.
-abbrev pub ComponentsLaw : Type 0
-ComponentsLaw =
+abbrev pub ComponentsKeptLaw : Type 0
+ComponentsKeptLaw =
     (items : List Item) (step : Step) (moved : Moved) → IsPairedDiagram items → move items step ≡ Ok moved →
     least_labels moved.items ≡ least_labels items ++ added step items
 
@@ -62,15 +62,15 @@ abbrev pub DiagramAgainLaw : Type 0
 DiagramAgainLaw = (items : List Item) (step : Step) (moved : Moved) → IsDiagram items → fresh items + 3 ≤ 2000000 → move items step ≡ Ok moved → IsDiagram moved.items
 
 -- R2Undo's test finds the faces of exactly two places, one at c and one at d, with one edge over at both places and the other under.
-abbrev pub BigonFaceLaw : Type 0
-BigonFaceLaw =
+abbrev pub BigonFacesLaw : Type 0
+BigonFacesLaw =
     (items : List Item) (c d s t : ℕ) (here there : List ℕ) → IsPairedDiagram items → crossing_at items c ≡ Some here → crossing_at items d ≡ Some there → c ≢ d →
     (is_bigon here there (s, t) ≡ true)
     ↔ ((next_of items (place c s) ≡ place d (t + 1)) × (next_of items (place d (t + 1)) ≡ place c s) × (s % 2 ≡ t % 2))
 
 -- R3's test finds the faces of exactly three places, one at each crossing, in this order, with an edge over at both places.
-abbrev pub TriangleFaceLaw : Type 0
-TriangleFaceLaw =
+abbrev pub TriangleFacesLaw : Type 0
+TriangleFacesLaw =
     (items : List Item) (c d f s t u : ℕ) (here there beyond : List ℕ) → IsPairedDiagram items → crossing_at items c ≡ Some here → crossing_at items d ≡ Some there → crossing_at items f ≡ Some beyond →
     c ≢ d → d ≢ f → c ≢ f →
     (is_triangle here there beyond (s, (t, u)) ≡ true)

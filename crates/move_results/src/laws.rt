@@ -1,6 +1,6 @@
 //! The laws of results of moves: each function has an empty body, and its contract is the law. They are stated in `specs/Laws.antt`.
 
-ghost use Rattle.move_results.specs.Laws.{PairedAgainLaw, ComponentsLaw, FaceStepLaw, DiagramAgainLaw, ScriptLinesLaw, BigonFaceLaw, TriangleFaceLaw};
+ghost use Rattle.move_results.specs.Laws.{PairedAgainLaw, ComponentsKeptLaw, FaceStepLaw, DiagramAgainLaw, ScriptLinesLaw, BigonFacesLaw, TriangleFacesLaw};
 
 /// In the result each crossing has four slots, and each label stands twice again.
 pub fn paired_again()
@@ -9,7 +9,7 @@ pub fn paired_again()
 
 /// The components keep their least labels, in their order; `BlowUp` adds one at the end.
 pub fn components_kept()
-    ensures { ComponentsLaw }
+    ensures { ComponentsKeptLaw }
 {}
 
 /// A face goes on from one crossing's slot to another's as their labels say.
@@ -29,10 +29,10 @@ pub fn script_lines()
 
 /// The test of `R2Undo` finds the faces of exactly two places.
 pub fn bigon_faces()
-    ensures { BigonFaceLaw }
+    ensures { BigonFacesLaw }
 {}
 
 /// The test of `R3` finds the faces of exactly three places.
 pub fn triangle_faces()
-    ensures { TriangleFaceLaw }
+    ensures { TriangleFacesLaw }
 {}

@@ -1,6 +1,6 @@
 //! Steps made with framed diagrams.
 
-ghost use Rattle.std.specs.Prelude.{◌≡◌, ◌⊎◌, ◌<◌, ◌≤◌, ◌++◌, Ok, Err, None, length, IfOk, IfErr};
+ghost use Rattle.std.specs.Prelude.{◌≡◌, ◌⊎◌, ◌+◌, ◌<◌, ◌≤◌, ◌++◌, Ok, Err, None, length, IfOk, IfErr};
 ghost use Rattle.root_quantum.specs.Parameters.{Parameters};
 ghost use Rattle.pd_reader.specs.Items.{item_labels};
 ghost use Rattle.pd_reader.specs.Diagrams.{labels};
@@ -76,6 +76,7 @@ pub fn apply_framed(alloc: Global, framed: &Framed, step: &Step) -> Result<Frame
     ensures refused { IfErr result (λ fault. (fault ≡ MoveFault.Memory) ⊎ (applied_framed framed.now step.now ≡ Err fault)) }
     // The components keep their least labels, in their order, and `BlowUp` adds one at the end.
     ensures components { IfOk result (λ moved. least_labels moved.items ≡ least_labels framed.now.items ++ added step.now framed.now.items) }
+    ensures greatest { IfOk result (λ moved. greatest (labels item_labels moved.items) ≤ greatest (labels item_labels framed.now.items) + 4) }
 {
     let moved = apply(alloc, framed.planar(), step)?;
     let framings = framings_after(alloc, framed, step)?;

@@ -1,6 +1,6 @@
 //! A step made with a diagram.
 
-ghost use Rattle.std.specs.Prelude.{◌≡◌, ◌⊎◌, ◌*◌, ◌%◌, ◌≤◌, ◌++◌, Ok, Err, IfOk, IfErr};
+ghost use Rattle.std.specs.Prelude.{◌≡◌, ◌⊎◌, ◌+◌, ◌*◌, ◌%◌, ◌≤◌, ◌++◌, Ok, Err, IfOk, IfErr};
 ghost use Rattle.root_quantum.specs.Parameters.{Parameters};
 ghost use Rattle.pd_reader.specs.Items.{item_labels};
 ghost use Rattle.pd_reader.specs.Diagrams.{IsDiagram, labels};
@@ -113,6 +113,8 @@ pub fn apply(alloc: Global, diagram: &Planar, step: &Step) -> Result<Moved, Move
     ensures bracket { IfOk result (λ moved. (p : Parameters) → bracket p moved.items ≡ factor_value p moved.factor * bracket p diagram.now % p.modulus) }
     // The components keep their least labels, in their order, and `BlowUp` adds one at the end.
     ensures components { IfOk result (λ moved. least_labels moved.items ≡ least_labels diagram.now ++ added step.now diagram.now) }
+    // The greatest label rises by at most 4, so that a script of 1,000 steps from a text on has room.
+    ensures greatest { IfOk result (λ moved. greatest (labels item_labels moved.items) ≤ greatest (labels item_labels diagram.now) + 4) }
 {
     let changed = change(alloc, diagram, step)?;
     let new = diagram_of(alloc, &changed.items)?;

@@ -1,7 +1,8 @@
 use Rattle.std.proofs.Common.{◌≡◌, ◌⊎◌, inl, inr, ◌∙◌, ℕ, ◌+◌, ◌≤◌, List, Ok, Err, sym, ap, subst, arith}
 use Rattle.pd_reader.specs.declared.item.Item.{Item}
-use Rattle.pd_reader.specs.Diagrams.{IsDiagram}
-use Rattle.planar_check.specs.Components.{least_labels}
+use Rattle.pd_reader.specs.Diagrams.{IsDiagram, labels}
+use Rattle.pd_reader.specs.Items.{item_labels}
+use Rattle.planar_check.specs.Components.{greatest, least_labels}
 use Rattle.diagram_brackets.specs.Brackets.{bracket}
 use Rattle.diagram_moves.specs.declared.fault.MoveFault.TheVariants as faults
 use Rattle.diagram_moves.specs.Laws.{IsPairedDiagram}
@@ -9,8 +10,8 @@ use Rattle.diagram_moves.specs.Moves.{move}
 use Rattle.diagram_moves.specs.Rewriting.{fresh}
 use Rattle.diagram_moves.specs.Steps.{Answer, Moved}
 use Rattle.diagram_moves.proofs.PlainMoves.{plain_moves}
-use Rattle.move_results.proofs.ComponentLaws.{components}
-use Rattle.move_results.proofs.DiagramResults.{diagram_again}
+use Rattle.move_results.proofs.ComponentLaws.{components_kept}
+use Rattle.move_results.proofs.DiagramResults.{diagram_again, greatest_grows}
 use Rattle.move_script.specs.Tables.{IsMade}
 use Rattle.move_script.proofs.moved.apply.Goals as goal
 
@@ -43,4 +44,13 @@ returns-clause-components c =
     let items = c.args.diagram.now in
     let moved : Moved = record { items = c.changed.inside.items.items; factor = c.changed.inside.factor } in
     let made = made_moved (move items c.args.step.now) moved (subst (λ (m : Moved). IsMade (move items c.args.step.now) (Ok m)) (sym c.changed.view_is) c.in_ok-changed.ensures.made) in
-    ap least_labels (c.in_ok-planar.ensures.made ∙ c.in_ok-new.ensures ∙ c.deref.ensures.value) ∙ components items c.args.step.now moved (paired items c.change.ensures.diagram) made
+    ap least_labels (c.in_ok-planar.ensures.made ∙ c.in_ok-new.ensures ∙ c.deref.ensures.value) ∙ components_kept items c.args.step.now moved (paired items c.change.ensures.diagram) made
+
+pub returns-clause-greatest : goal.returns-clause-greatest
+returns-clause-greatest c =
+    let items = c.args.diagram.now in
+    let moved : Moved = record { items = c.changed.inside.items.items; factor = c.changed.inside.factor } in
+    let made = made_moved (move items c.args.step.now) moved (subst (λ (m : Moved). IsMade (move items c.args.step.now) (Ok m)) (sym c.changed.view_is) c.in_ok-changed.ensures.made) in
+    let same = ap (λ (its : List Item). greatest (labels item_labels its)) (c.in_ok-planar.ensures.made ∙ c.in_ok-new.ensures ∙ c.deref.ensures.value) in
+    let most = greatest_grows items c.args.step.now moved (paired items c.change.ensures.diagram) made in
+    omega (arith, same, most)
