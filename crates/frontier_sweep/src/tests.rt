@@ -345,7 +345,12 @@ fn closures(rt: HostRuntime) -> Result<(), Fail> {
     assert_eq!(rt; greedy_by_closure(rt.alloc(), &network), inner);
     let outer_first = given_by_closure(rt.alloc(), &network, &[1, 3]);
     assert_eq!(rt; outer_first, Some((Ok(2), 18)));
-    let both = swept_in_threads(&rt, rt.alloc(), &network, Kept(|view: &View| greedy_next(view)));
+    let both = swept_in_threads(
+        &rt,
+        rt.alloc(),
+        &network,
+        Kept(|view: &View| greedy_next(view)),
+    );
     assert_eq!(rt; both, (inner, inner));
     Ok(())
 }
