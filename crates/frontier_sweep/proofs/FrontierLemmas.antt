@@ -210,8 +210,7 @@ module _ (m delta : ℕ) (network : Network) (order : List ℕ) (frontier : Fron
   kept other in_next =
       let left = left_below (length network.nodes) (order ++ place ∷ []) other in_next in
       let both = is_member-append order (place ∷ []) other in
-      let absent = left.1 in
-      (
+      let absent = left.1 in (
         subst (λ left. is_member ◌==◌ left other ≡ true) (sym h.left_are) (below_left (length network.nodes) order other left.0 (grind (arith, nat_tests, both, absent))),
         grind (arith, nat_tests, both, absent),
       )

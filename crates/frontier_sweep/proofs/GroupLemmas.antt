@@ -1,11 +1,10 @@
 -- The index of groups, and the first nodes left of some: what a search in the index finds is the first of its kind, since the numbers
 -- increase.
-use Rattle.std.proofs.Common.{◌≡◌, ◌≢◌, ◌⊎◌, ⊎_elim, ℕ, ◌+◌, ◌*◌, ◌%◌, ◌<◌, ◌≤◌, ◌==◌, Bool, true, false, List, [], ◌∷◌, ◌++◌, length, slice_index, take, take_all, sym, refl, ap, subst, ◌∙◌, arith}
+use Rattle.std.proofs.Common.{◌≡◌, ◌≢◌, ◌⊎◌, ⊎_elim, ℕ, ◌+◌, ◌*◌, ◌%◌, ◌<◌, ◌≤◌, ◌==◌, true, false, List, [], ◌∷◌, ◌++◌, length, slice_index, take, take_all, sym, refl, ap, subst, ◌∙◌, arith}
 use Rattle.std.specs.List.{All}
 use Rattle.std.specs.List.Sorted.{IsNonDecreasing, IsPermutation}
 use Rattle.std.specs.Set.{is_member}
 use Rattle.std.proofs.lemmas.Bool.{or_left, or_right, eq-eqb}
-use Rattle.std.proofs.lemmas.Bool.Decides.{nat_tests}
 use Rattle.std.proofs.lemmas.List.Kept.{AllPairs-from_increasing}
 use Rattle.std.proofs.lemmas.List.Elements.{All-push, All-get_or}
 use Rattle.std.proofs.lemmas.List.Sorted.{All-permutation, list_any-IsPermutation}
@@ -111,8 +110,7 @@ module _ (view : View) (is_view : IsView view) (index : List ℕ) (is : IsGroupI
         let key = stands.key in
         let small = stands.small in
         let before = low_before stands.at in
-        let behind = λ (more : high ≤ stands.at). high_behind stands.at more stands.within in
-        (
+        let behind = λ (more : high ≤ stands.at). high_behind stands.at more stands.within in (
           not_less stands.at low (λ less. let b = before less in omega (arith, b, key, of_group)),
           not_more stands.at high (λ more. let b = behind more in omega (arith, b, key, of_group, small)),
         )
@@ -194,12 +192,11 @@ pub given_found : (view : View) → IsView view → (order : List ℕ) (at : ℕ
 given_found view is_view order at within none place first =
     sym (first_least-told (λ place. rank_in order (group_at view place)) view.left place (AllPairs-from_increasing view.left is_view.increasing) first.left_is (λ other left.
     let here = rank-there order (group_at view place) at within (none place first.left_is) (sym first.group_is) in
-    let behind = rank-behind order (group_at view other) at (omega (arith, within)) (none other left) in
-    (
+    let behind = rank-behind order (group_at view other) at (omega (arith, within)) (none other left) in (
       omega (arith, here, behind),
       λ less. above (rank_in order (group_at view place)) (rank_in order (group_at view other)) at here behind (λ same.
-      let no = first.first other left (sym (rank-only order (group_at view other) at within same)) in
-      omega (arith, no, less)),
+          let no = first.first other left (sym (rank-only order (group_at view other) at within same)) in
+          omega (arith, no, less)),
     )))
   where
     above : (a b at : ℕ) → a ≡ at → at ≤ b → (b ≡ at → ⊥) → a < b
@@ -211,12 +208,11 @@ given_behind view is_view order done all none place first =
     sym (first_least-told (λ place. rank_in order (group_at view place)) view.left place (AllPairs-from_increasing view.left is_view.increasing) first.left_is (λ other left.
     let here = outside place first.left_is in
     let there = outside other left in
-    let least = first.least other left in
-    (
+    let least = first.least other left in (
       omega (arith, here, there, least),
       λ less. above (group_at view place) (group_at view other) (rank_in order (group_at view place)) (rank_in order (group_at view other)) (length order) here there least (λ same.
-      let no = first.first other left same in
-      omega (arith, no, less)),
+          let no = first.first other left same in
+          omega (arith, no, less)),
     )))
   where
     outside : (place : ℕ) → is_member ◌==◌ view.left place ≡ true → rank_in order (group_at view place) ≡ length order + group_at view place

@@ -4,7 +4,7 @@
 --     IsFirstLeft left index low high place  of the places that the index names from low on below high it is the first one left
 --     IsFirstOf view group place             it is the least place left of that group
 --     IsFirstOfAll view place                of the nodes left none has a lesser group, and none before it has its group
-use Rattle.std.specs.Prelude.{◌≡◌, ◌⊎◌, ℕ, ◌%◌, ◌<◌, ◌≤◌, ◌==◌, true, false, List, length, slice_index}
+use Rattle.std.specs.Prelude.{◌≡◌, ℕ, ◌%◌, ◌<◌, ◌≤◌, ◌==◌, true, false, List, length, slice_index}
 use Rattle.std.specs.List.{All}
 use Rattle.std.specs.List.Sorted.{IsNonDecreasing}
 use Rattle.std.specs.Set.{is_member}

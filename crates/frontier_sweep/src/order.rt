@@ -1,12 +1,11 @@
 //! The three orders.
 
-ghost use Rattle.std.specs.Prelude.{not, ◌&&◌, ◌≡◌, ◌≢◌, ◌<◌, ◌≤◌, ◌==◌, ◌++◌, ⊤, ℕ, [], length, true};
-ghost use Rattle.std.specs.List.{All, count_by, position};
+ghost use Rattle.std.specs.Prelude.{◌≡◌, ◌≢◌, ◌<◌, ◌==◌, ⊤, ℕ, [], length, true};
+ghost use Rattle.std.specs.List.{All};
 ghost use Rattle.std.specs.Set.{is_member};
-ghost use Rattle.list_lemmas.specs.Times.{times_in};
 ghost use Rattle.frontier_sweep.specs.Next.{next_of};
 ghost use Rattle.frontier_sweep.specs.NextLeft.{next_of-left};
-ghost use Rattle.frontier_laws.specs.Orders.{node_at, first_least, listed_of, greedy_of, given_of, open_with, rank_in};
+ghost use Rattle.frontier_laws.specs.Orders.{first_least, listed_of, greedy_of, given_of};
 
 use crate::chooser::Choose;
 use crate::groups::{first_of_all, first_of_group};

@@ -1,6 +1,9 @@
 //! Worked rows, the limits, and random networks against the sum over all states.
 
-ghost use Rattle.std.specs.Prelude.{◌≡◌, ◌≢◌, ◌<◌, ◌==◌, ℕ, [], true, IsTrue, length};
+ghost use Rattle.frontier_laws.specs.Orders.{View, listed_of, greedy_of, given_of};
+ghost use Rattle.frontier_laws.specs.Views.{IsNext};
+ghost use Rattle.frontier_sweep.specs.SweepResults.{sweep};
+ghost use Rattle.std.specs.Prelude.{Ok, Some, ◌≡◌, ◌≢◌, ◌<◌, ◌==◌, ℕ, [], true, IsTrue, length};
 ghost use Rattle.std.specs.List.{All};
 ghost use Rattle.std.specs.Set.{is_member};
 ghost use Rattle.state_sums.specs.Networks.{WeightsBelow};
@@ -142,7 +145,9 @@ fn weights_below(network: &Network, m: u64) -> bool
 /// What `contract` answers at 41, 2, 5, where a loop is worth 6, and the turns that it counts.
 type Answer = (Result<u64, SweepFault>, u128);
 
-fn answer_of<C: Choose>(alloc: Global, network: &Network, chooser: &Chooser<C>) -> Option<Answer> {
+fn answer_of<C: Choose>(alloc: Global, network: &Network, chooser: &Chooser<C>) -> Option<Answer>
+    ensures { (next : View → ℕ) → IsNext next (C.answers chooser.now) → (value count : ℕ) → result ≡ Some (Ok value, count) → sweep next network.now ≡ Ok count }
+{
     let params = Params::new(41, 2, 5).ok()?;
     if !weights_below(network, params.ring().modulus()) {
         return None;
@@ -154,8 +159,30 @@ fn answer_of<C: Choose>(alloc: Global, network: &Network, chooser: &Chooser<C>) 
 
 fn swept<C: Choose + Drop>(alloc: Global, network: &Network, choose: C) -> Option<Answer>
     requires { C.chooses choose }
+    ensures { (next : View → ℕ) → IsNext next (C.answers choose) → (value count : ℕ) → result ≡ Some (Ok value, count) → sweep next network.now ≡ Ok count }
 {
     answer_of(alloc, network, &Chooser::keep(choose))
+}
+
+/// The same in the listed order, by a closure.
+fn listed_by_closure(alloc: Global, network: &Network) -> Option<Answer>
+    ensures { (value count : ℕ) → result ≡ Some (Ok value, count) → sweep listed_of network.now ≡ Ok count }
+{
+    swept(alloc, network, Kept(|view: &View| listed_next(view)))
+}
+
+/// In the greedy order.
+fn greedy_by_closure(alloc: Global, network: &Network) -> Option<Answer>
+    ensures { (value count : ℕ) → result ≡ Some (Ok value, count) → sweep greedy_of network.now ≡ Ok count }
+{
+    swept(alloc, network, Kept(|view: &View| greedy_next(view)))
+}
+
+/// In the order that a list gives, which the closure keeps.
+fn given_by_closure(alloc: Global, network: &Network, groups: &[u32]) -> Option<Answer>
+    ensures { (value count : ℕ) → result ≡ Some (Ok value, count) → sweep (given_of groups.now) network.now ≡ Ok count }
+{
+    swept(alloc, network, Kept(|view: &View| given_next(view, groups)))
 }
 
 /// The same by each of two threads, which share the chooser.
@@ -207,6 +234,17 @@ const VALUES: [ValueRow; 7] = [
     (TERMLESS, &[], 0, [0, 0, 0]),
 ];
 
+/// The same where a limit is met.
+const LIMITS: [(&[NodeRow], &[u32], [Answer; 3]); 1] = [(
+    BROAD,
+    &[3, 1, 4],
+    [
+        (Err(SweepFault::Wide { step: 3, ends: 40 }), 0),
+        (Ok(27), 5),
+        (Err(SweepFault::Wide { step: 2, ends: 40 }), 0),
+    ],
+)];
+
 #[test]
 fn worked_rows(rt: HostRuntime) -> Result<(), Fail> {
     for (number, (rows, groups, value, turns)) in VALUES.iter().enumerate() {
@@ -216,28 +254,10 @@ fn worked_rows(rt: HostRuntime) -> Result<(), Fail> {
             assert_eq!(rt; *answer, (Ok(*value), *turns), "row {number}");
         }
     }
-    Ok(())
-}
-
-#[test]
-fn long_braid(rt: HostRuntime) -> Result<(), Fail> {
-    let network = braid(rt.alloc(), 256).ok_or("no network")?;
-    let answers = swept_thrice(rt.alloc(), &network, &[]).ok_or("no answers")?;
-    for answer in answers {
-        assert_eq!(rt; answer, (Ok(11), 1022));
+    for (rows, groups, wanted) in LIMITS {
+        let network = network(rt.alloc(), rows).ok_or("no network")?;
+        assert_eq!(rt; swept_thrice(rt.alloc(), &network, groups), Some(wanted));
     }
-    Ok(())
-}
-
-#[test]
-fn too_wide(rt: HostRuntime) -> Result<(), Fail> {
-    let network = network(rt.alloc(), BROAD).ok_or("no network")?;
-    let [listed, greedy, given] = swept_thrice(rt.alloc(), &network, &[3, 1, 4]).ok_or(
-        "no answers",
-    )?;
-    assert_eq!(rt; listed, (Err(SweepFault::Wide { step: 3, ends: 40 }), 0));
-    assert_eq!(rt; greedy, (Ok(27), 5));
-    assert_eq!(rt; given, (Err(SweepFault::Wide { step: 2, ends: 40 }), 0));
     Ok(())
 }
 
@@ -296,10 +316,13 @@ fn full_network(alloc: Global) -> Option<Network> {
 
 // 105 to the third is 1,157,625.
 #[test]
-fn too_many_pairings(rt: HostRuntime) -> Result<(), Fail> {
-    let network = full_network(rt.alloc()).ok_or("no network")?;
-    let answer = swept(rt.alloc(), &network, Order::Listed).ok_or("no answer")?;
-    assert_eq!(rt; answer, (Err(SweepFault::Table { step: 3 }), 0));
+fn large_networks(rt: HostRuntime) -> Result<(), Fail> {
+    let long = braid(rt.alloc(), 256).ok_or("no network")?;
+    let answer = (Ok(11), 1022);
+    assert_eq!(rt; swept_thrice(rt.alloc(), &long, &[]), Some([answer; 3]));
+    let full = full_network(rt.alloc()).ok_or("no network")?;
+    let answer = swept(rt.alloc(), &full, Order::Listed);
+    assert_eq!(rt; answer, Some((Err(SweepFault::Table { step: 3 }), 0)));
     Ok(())
 }
 
@@ -315,17 +338,20 @@ fn last_left(view: &View) -> u32
 #[test]
 fn closures(rt: HostRuntime) -> Result<(), Fail> {
     let network = network(rt.alloc(), FIGURE_EIGHT).ok_or("no network")?;
-    let last = swept(rt.alloc(), &network, Kept(|view: &View| last_left(view))).ok_or("no answer")?;
-    assert_eq!(rt; last, (Ok(2), 14));
-    let outer_first = swept(
+    let inner = Some((Ok(2), 14));
+    let last = swept(rt.alloc(), &network, Kept(|view: &View| last_left(view)));
+    assert_eq!(rt; last, inner);
+    assert_eq!(rt; listed_by_closure(rt.alloc(), &network), inner);
+    assert_eq!(rt; greedy_by_closure(rt.alloc(), &network), inner);
+    let outer_first = given_by_closure(rt.alloc(), &network, &[1, 3]);
+    assert_eq!(rt; outer_first, Some((Ok(2), 18)));
+    let both = swept_in_threads(
+        &rt,
         rt.alloc(),
         &network,
-        Kept(|view: &View| given_next(view, &[1, 3])),
-    )
-    .ok_or("no answer")?;
-    assert_eq!(rt; outer_first, (Ok(2), 18));
-    let shared = swept_in_threads(&rt, rt.alloc(), &network, Kept(|view: &View| greedy_next(view)));
-    assert_eq!(rt; shared, (Some((Ok(2), 14)), Some((Ok(2), 14))));
+        Kept(|view: &View| greedy_next(view)),
+    );
+    assert_eq!(rt; both, (inner, inner));
     Ok(())
 }
 

@@ -1,8 +1,7 @@
-use Rattle.std.proofs.Common.{◌≡◌, ◌<◌, ◌≤◌, List, [], length, get_or, refl, sym, ap, subst, ◌∙◌}
+use Rattle.std.proofs.Common.{◌<◌, ◌≤◌, List, [], length, get_or, ap, subst, ◌∙◌}
 use Rattle.std.proofs.lemmas.List.{get_or_default}
 use Rattle.std.proofs.lemmas.List.Sorted.{IsNonDecreasingBy-from_sort}
 use Rattle.state_sums.specs.Networks.{Node}
-use Rattle.frontier_laws.specs.Orders.{node_at}
 use Rattle.frontier_sweep.proofs.RiseLemmas.{ends_more, index_sorted}
 use Rattle.frontier_sweep.proofs.ends_index.ends_index.Goals as goal
 

@@ -1,4 +1,4 @@
-use Rattle.std.proofs.Common.{◌≡◌, ◌==◌, ◌<◌, ◌≤◌, ◌%◌, ℕ, false, List, length, slice_index, refl, subst}
+use Rattle.std.proofs.Common.{◌≡◌, ◌==◌, ◌<◌, ◌≤◌, ◌%◌, ℕ, false, length, slice_index, subst}
 use Rattle.std.specs.Set.{is_member}
 use Rattle.frontier_sweep.specs.Groups.{IsFirstLeft}
 use Rattle.frontier_sweep.proofs.GroupLemmas.{first_of_whole, none_left}

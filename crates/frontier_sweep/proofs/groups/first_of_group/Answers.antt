@@ -1,4 +1,4 @@
-use Rattle.std.proofs.Common.{◌≡◌, ◌≢◌, ◌==◌, ◌<◌, ◌≤◌, ◌+◌, ◌*◌, ◌%◌, ℕ, true, false, List, Option, Some, None, length, slice_index, subst, sym, arith}
+use Rattle.std.proofs.Common.{◌≡◌, ◌==◌, ◌<◌, ◌≤◌, ◌%◌, ℕ, false, Option, Some, None, slice_index, subst, arith}
 use Rattle.std.specs.Option.{IfSome}
 use Rattle.std.specs.Set.{is_member}
 use Rattle.frontier_sweep.specs.Groups.{IsFirstLeft, IsFirstOf}

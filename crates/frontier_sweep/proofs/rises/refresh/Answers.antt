@@ -1,4 +1,4 @@
-use Rattle.std.proofs.Common.{rules, ◌≡◌, ◌==◌, ◌+◌, true, false, slice_index, refl, sym, subst, ◌∙◌}
+use Rattle.std.proofs.Common.{rules, ◌≡◌, ◌==◌, ◌+◌, false, slice_index, refl, sym, subst}
 use Rattle.std.specs.Set.{is_member}
 use Rattle.frontier_sweep.proofs.RiseLemmas.{AreRefreshed, refreshed_end, refreshed_none, refreshed_whole}
 use Rattle.frontier_sweep.proofs.rises.refresh.Goals as goal

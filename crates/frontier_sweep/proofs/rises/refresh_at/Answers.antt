@@ -1,8 +1,7 @@
-use Rattle.std.proofs.Common.{◌≡◌, ◌<◌, ◌≤◌, ◌+◌, ◌*◌, ◌%◌, ℕ, List, [], length, get_or, slice_index, refl, sym, ap, subst, ◌∙◌, arith}
+use Rattle.std.proofs.Common.{◌<◌, ◌+◌, ◌%◌, List, [], length, get_or, slice_index, sym, ap, subst, ◌∙◌, arith}
 use Rattle.std.proofs.lemmas.List.{get_or_default}
 use Rattle.std.proofs.lemmas.List.Elements.{All-get_or}
 use Rattle.state_sums.specs.Networks.{Node}
-use Rattle.frontier_laws.specs.Orders.{node_at}
 use Rattle.frontier_laws.specs.Rises.{rise}
 use Rattle.frontier_sweep.proofs.RiseLemmas.{AreRefreshedAt, refreshed_more, refreshed_past, refreshed_all}
 use Rattle.frontier_sweep.proofs.rises.refresh_at.Goals as goal

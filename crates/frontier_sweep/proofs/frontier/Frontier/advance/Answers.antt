@@ -1,4 +1,4 @@
-use Rattle.std.proofs.Common.{◌≡◌, ◌==◌, false, ℕ, ◌<◌, ◌≤◌, ◌+◌, ◌*◌, List, [], ◌∷◌, ◌++◌, length, slice_index, sym, ap, subst, ◌∙◌}
+use Rattle.std.proofs.Common.{ℕ, ◌<◌, ◌≤◌, ◌+◌, ◌*◌, List, [], ◌∷◌, ◌++◌, length, slice_index, sym, ap, subst, ◌∙◌}
 use Rattle.std.specs.List.{remove}
 use Rattle.std.proofs.lemmas.Result.{err_from_is_err_and}
 use Rattle.state_sums.specs.Networks.{Node}
@@ -6,8 +6,7 @@ use Rattle.frontier_laws.specs.Tables.{add_all, contributions}
 use Rattle.std.specs.Result.{IfErr}
 use Rattle.frontier_sweep.specs.Frontiers.{Frontier, IsFrontier, IsLimitAfter}
 use Rattle.frontier_sweep.specs.NotGluedNodes.{Explains}
-use Rattle.std.specs.Set.{is_member}
-use Rattle.frontier_sweep.specs.Rises.{Rises, IsRises, IsAfter}
+use Rattle.frontier_sweep.specs.Rises.{IsRises, IsAfter}
 use Rattle.frontier_sweep.specs.Steps.{IsReady, IsSeamOf}
 use Rattle.frontier_sweep.proofs.FrontierLemmas.{place_in_network, taking, ready, limit, after_it, next_frontier}
 use Rattle.frontier_sweep.proofs.frontier.Frontier.advance.Goals as goal
