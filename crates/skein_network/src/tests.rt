@@ -1,11 +1,14 @@
 //! Worked rows: values of coloured diagrams and nets, and refusals.
 
+ghost use Rattle.state_sums.specs.Networks.{WeightsBelow};
+
 use crate::{CableFault, cable, cable_net};
 use arc_pairing::{Network, Turns};
-use frontier_sweep::{Chooser, Order, contract};
+use frontier_sweep::{Chooser, Order, SweepFault, contract};
 use pd_reader::{read_net, read_pd};
 use planar_check::{check, check_net};
 use root_quantum::Params;
+use std::alloc::Global;
 use std::test::Fail;
 use wenzl_table::Table;
 
@@ -60,34 +63,45 @@ const NETS: [Row; 4] = [
     ),
 ];
 
+/// The value of a cable, node by node in their order.
+fn value_of(alloc: Global, table: &Table, network: &Network) -> Result<u64, SweepFault>
+    requires { WeightsBelow table.now.params.modulus network.now.nodes }
+{
+    let chooser = Chooser::keep(Order::Listed);
+    let mut turns = Turns::new();
+    contract(alloc, table.params(), network, &chooser, &mut turns)
+}
+
 #[test]
-fn rows(rt: HostRuntime) -> Result<(), Fail> {
+fn diagrams(rt: HostRuntime) -> Result<(), Fail> {
     let params = Params::new(41, 2, 5)?;
     assert!(rt; params.top_colour() >= 4);
     let table = Table::new(rt.alloc(), params, 4)?;
-    let mut notes = table.notes(rt.alloc())?;
-    let chooser = Chooser::keep(Order::Listed);
     for (text, colours, wanted) in &DIAGRAMS {
         let diagram = check(rt.alloc(), read_pd(rt.alloc(), text)?)?;
-        match cable(rt.alloc(), &diagram, colours, &table, &mut notes) {
-            Ok(network) => {
-                let mut turns = Turns::new();
-                let value = contract(rt.alloc(), table.params(), &network, &chooser, &mut turns)?;
-                assert!(rt; *wanted == Ok(value));
-            }
-            Err(fault) => assert!(rt; *wanted == Err(fault)),
-        }
+        let mut notes = table.notes(rt.alloc())?;
+        let answer = match cable(rt.alloc(), &diagram, colours, &table, &mut notes) {
+            Ok(network) => Ok(value_of(rt.alloc(), &table, &network)?),
+            Err(fault) => Err(fault),
+        };
+        assert!(rt; answer == *wanted);
     }
+    Ok(())
+}
+
+#[test]
+fn nets(rt: HostRuntime) -> Result<(), Fail> {
+    let params = Params::new(41, 2, 5)?;
+    assert!(rt; params.top_colour() >= 4);
+    let table = Table::new(rt.alloc(), params, 4)?;
     for (text, colours, wanted) in &NETS {
         let net = check_net(rt.alloc(), read_net(rt.alloc(), text)?)?;
-        match cable_net(rt.alloc(), &net, colours, &table, &mut notes) {
-            Ok(network) => {
-                let mut turns = Turns::new();
-                let value = contract(rt.alloc(), table.params(), &network, &chooser, &mut turns)?;
-                assert!(rt; *wanted == Ok(value));
-            }
-            Err(fault) => assert!(rt; *wanted == Err(fault)),
-        }
+        let mut notes = table.notes(rt.alloc())?;
+        let answer = match cable_net(rt.alloc(), &net, colours, &table, &mut notes) {
+            Ok(network) => Ok(value_of(rt.alloc(), &table, &network)?),
+            Err(fault) => Err(fault),
+        };
+        assert!(rt; answer == *wanted);
     }
     Ok(())
 }
