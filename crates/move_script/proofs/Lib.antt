@@ -3,3 +3,4 @@ pub mod EdgeLemmas
 pub mod MadeMoves
 pub mod FramingsKept
 pub mod BlownUp
+mod Examples
