@@ -93,7 +93,12 @@ const ACCEPTED: [(&[u8], Step, &[u8], Factor); 10] = [
         b"PD[Loop[2],X[1,1,3,3]]",
         CURL,
     ),
-    (CURLED, Step::CurlUndo { crossing: 1 }, b"PD[Loop[1]]", UNCURLED),
+    (
+        CURLED,
+        Step::CurlUndo { crossing: 1 },
+        b"PD[Loop[1]]",
+        UNCURLED,
+    ),
     (
         b"PD[]",
         Step::BlowUp { sign: Sign::Minus },

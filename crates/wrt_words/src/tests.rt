@@ -82,7 +82,10 @@ fn taken_words_have_their_parts(rt: HostRuntime) -> Result<(), Fail> {
         };
         let (command, numbers, options, turns) = wanted;
         let given = [parts.colors, parts.framing, parts.workers, parts.order];
-        assert!(rt; parts.command == command && parts.numbers.as_slice() == numbers, "{words:?}");
+        assert!(rt;
+            parts.command == command && parts.numbers.as_slice() == numbers,
+            "{words:?}"
+        );
         assert!(rt; given == options && parts.turns == turns, "{words:?}");
     }
     Ok(())
