@@ -1,10 +1,8 @@
 -- Straight strands pair as many points as there are ends, and so does a vertex.
 --
 -- Others cite: straight_length, vertex_short, vertex_ends.
-use Rattle.std.proofs.Common.{◌≡◌, ℕ, ◌+◌, ◌==◌, true, Some, List, [], ◌∷◌, ◌++◌, length, sym, ap, arith, subst, ◌*◌, ◌≤◌, length-append}
-use Rattle.std.proofs.lemmas.Bool.{eq-eqb}
-use Rattle.state_sums.specs.Networks.{Term, IsPairing}
-use Rattle.arc_pairing.specs.Nodes.{first_misfit}
+use Rattle.std.proofs.Common.{◌≡◌, ℕ, ◌+◌, List, ◌++◌, length, sym, ap, arith, subst, ◌*◌, ◌≤◌, length-append}
+use Rattle.state_sums.specs.Networks.{IsPairing}
 use Rattle.strand_algebra.specs.StrandPairings.{straight}
 use Rattle.cables.specs.CableNodes.{vertex_partner, joining}
 use Rattle.cables.specs.Cables.{IsAdmissible}

@@ -1,7 +1,7 @@
 -- What `cable_net` has found before it makes the nodes, and what that tells of the cable.
 --
 -- Others cite: net_high, net_edges_coloured, net_edges_fit, net_cable, net_cable_weights.
-use Rattle.std.proofs.Common.{◌≡◌, ℕ, ◌≤◌, List, length, None, refl, sym, ap, ap₂, subst, ◌∙◌, arith}
+use Rattle.std.proofs.Common.{◌≡◌, ℕ, ◌≤◌, List, length, None, refl, sym, ap, subst, ◌∙◌, arith}
 use Rattle.std.specs.List.{AllByRecursion}
 use Rattle.state_sums.specs.Networks.{Network, WeightsBelow}
 use Rattle.root_quantum.specs.Parameters.{Parameters}

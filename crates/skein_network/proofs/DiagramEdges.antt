@@ -1,21 +1,20 @@
 -- The edges of a diagram have the colours of the components, at the labels that stand in it. So their cable is the diagram's.
 --
 -- Others cite: edge_is, diagram_coloured, diagram_fits, diagram_cable, diagram_weights.
-use Rattle.std.proofs.Common.{◌≡◌, ℕ, zero, suc, ◌-◌, ◌+◌, ◌<◌, ◌≤◌, ◌==◌, Bool, true, false, cond, List, [], ◌∷◌, length, map, slice_index, count_by, nat_le, le-leb, ◌&&◌, if◌then◌else◌, Option, Some, None, unwrap_or, refl, sym, ap, ap₂, subst, ◌∙◌, arith, ⊎_elim}
+use Rattle.std.proofs.Common.{◌≡◌, ℕ, zero, suc, ◌-◌, ◌≤◌, ◌==◌, Bool, true, false, cond, List, [], ◌∷◌, length, map, slice_index, count_by, nat_le, le-leb, ◌&&◌, if◌then◌else◌, Some, None, unwrap_or, refl, sym, ap, ap₂, subst, ◌∙◌, arith, ⊎_elim}
 use Rattle.std.specs.List.{AllByRecursion}
 use Rattle.std.specs.Set.{is_member}
 use Rattle.std.proofs.lemmas.Bool.{cases_Bool, and_parts, eq-eqb, or_left, or_right}
 use Rattle.std.proofs.lemmas.Bool.Decides.{nat_tests}
-use Rattle.graph_parts.proofs.Ends.{is_member-get_or, is_member-itself}
 use Rattle.state_sums.specs.Networks.{WeightsBelow}
 use Rattle.root_quantum.specs.Parameters.{Parameters}
 use Rattle.pd_reader.specs.declared.item.Item.{Item}
-use Rattle.pd_reader.specs.Items.{item_labels, net_item_labels, HasItsSlots}
+use Rattle.pd_reader.specs.Items.{item_labels, HasItsSlots}
 use Rattle.pd_reader.specs.Diagrams.{labels, IsDiagram}
 use Rattle.planar_check.specs.Components.{distinct, component_least, component_of, greatest, least_labels, number_of}
 use Rattle.planar_check.proofs.ComponentLists.{distinct-member}
 use Rattle.planar_check.proofs.ComponentNumbers.{least_at_number}
-use Rattle.cables.specs.Strands.{Strands, first_names, second_names}
+use Rattle.cables.specs.Strands.{first_names, second_names}
 use Rattle.cables.specs.Cables.{cable, as_net, Fits}
 use Rattle.cables.specs.Nets.{projector_of}
 use Rattle.cables.proofs.NumberedStrands.{first_length}

@@ -4,7 +4,7 @@
 -- with the modulus stands below both.
 --
 -- Others cite: IsFoundBelow, found_start, found_one, found_skip, no_inverse_above, no_common_below.
-use Rattle.std.proofs.Common.{◌≡◌, ℕ, zero, suc, ◌+◌, ◌<◌, ◌≤◌, ◌==◌, ◌⊎◌, inl, inr, true, false, List, [], ◌∷◌, ◌++◌, Some, None, Option, IfSome, refl, sym, ap, ◌∙◌, arith, subst, ⊎_elim, All, max}
+use Rattle.std.proofs.Common.{◌≡◌, ℕ, ◌+◌, ◌<◌, ◌≤◌, ◌==◌, true, false, List, [], ◌∷◌, ◌++◌, Some, None, Option, IfSome, refl, sym, ap, ◌∙◌, arith, subst, ⊎_elim, All, max}
 use Rattle.std.specs.List.{Contains}
 use Rattle.std.specs.Set.{is_member}
 use Rattle.std.proofs.lemmas.Bool.{cases_order, eq-eqb, or_left, or_right}

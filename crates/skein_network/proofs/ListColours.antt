@@ -2,7 +2,7 @@
 --
 -- Others cite: few_colours, member_of, not_refused, unchanged, all_admissible, or_left_none, or_right_none, or_second, or_first,
 -- no_projector, top_few.
-use Rattle.std.proofs.Common.{◌≡◌, ℕ, zero, suc, ◌<◌, ◌≤◌, ◌==◌, ◌⊎◌, inl, inr, nat_lt, max, true, false, if◌then◌else◌, List, [], ◌∷◌, length, Option, Some, None, Result, IfErr, refl, sym, ap, ◌∙◌, arith, ⊎_elim}
+use Rattle.std.proofs.Common.{◌≡◌, ℕ, zero, suc, ◌≤◌, ◌==◌, ◌⊎◌, inl, inr, nat_lt, max, true, false, if◌then◌else◌, List, [], ◌∷◌, length, Option, Some, None, Result, IfErr, refl, ap, arith, ⊎_elim}
 use Rattle.std.specs.List.{Contains}
 use Rattle.std.specs.Option.{option_or, option_map}
 use Rattle.std.specs.Set.{is_member}

@@ -3,7 +3,7 @@
 -- A label's colour stands in the list of colours where the label stands among the labels.
 --
 -- Others cite: few_labels, edge_colours, net_strands_are, edges_coloured, net_fit, net_weights.
-use Rattle.std.proofs.Common.{◌≡◌, ℕ, zero, suc, ◌+◌, ◌<◌, ◌≤◌, ◌==◌, not, nat_le, max, Bool, true, false, cond, List, [], ◌∷◌, None, length, slice_index, refl, sym, ap, ap₂, subst, ◌∙◌, arith}
+use Rattle.std.proofs.Common.{◌≡◌, ℕ, suc, ◌+◌, ◌≤◌, ◌==◌, not, nat_le, Bool, true, false, cond, List, [], ◌∷◌, None, length, slice_index, refl, sym, ap, ap₂, subst, ◌∙◌, arith}
 use Rattle.std.specs.List.{AllByRecursion, filter, range_with_len}
 use Rattle.std.specs.Set.{is_member}
 use Rattle.std.proofs.lemmas.Bool.{eq-eqb, or_left, or_right}

@@ -1,4 +1,4 @@
-use Rattle.std.proofs.Common.{◌≡◌, ◌≤◌, ◌==◌, ◌&&◌, not, length, get_or, reverse, refl, sym, ap, subst, ◌∙◌, arith}
+use Rattle.std.proofs.Common.{◌≤◌, ◌==◌, ◌&&◌, not, length, get_or, reverse, refl, sym, ap, subst, ◌∙◌, arith}
 use Rattle.std.specs.Set.{is_member}
 use Rattle.std.proofs.lemmas.Bool.{and_parts}
 use Rattle.skein_network.specs.Edges.{boxed_at}

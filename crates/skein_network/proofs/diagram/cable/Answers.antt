@@ -1,13 +1,11 @@
-use Rattle.std.proofs.Common.{◌≡◌, ◌≤◌, length, map, ap, ap₂, sym, subst, ◌∙◌, arith}
+use Rattle.std.proofs.Common.{ap, ap₂, sym, subst, ◌∙◌, arith}
 use Rattle.std.specs.List.{AllByRecursion}
 use Rattle.std.proofs.lemmas.Result.{IfOk-weaker}
 use Rattle.state_sums.specs.Networks.{WeightsBelow}
 use Rattle.pd_reader.specs.Diagrams.{IsNet, IsDiagram}
-use Rattle.planar_check.specs.Components.{least_labels}
 use Rattle.cables.specs.Cables.{cable, as_net, Fits}
 use Rattle.coloured_values.proofs.CabledDiagrams.{IsNet-as_net}
 use Rattle.skein_network.specs.Edges.{strands_at}
-use Rattle.skein_network.specs.Refusals.{colour_refusal}
 use Rattle.skein_network.specs.Colourings.{AreColoured}
 use Rattle.skein_network.proofs.ListColours.{not_refused, top_few}
 use Rattle.skein_network.proofs.DiagramEdges.{diagram_coloured, diagram_fits, diagram_cable, diagram_weights}

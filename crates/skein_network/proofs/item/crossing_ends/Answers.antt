@@ -1,4 +1,4 @@
-use Rattle.std.proofs.Common.{◌≡◌, ℕ, List, ◌∷◌, get_or, reverse, ap, ◌∙◌}
+use Rattle.std.proofs.Common.{ℕ, List, ◌∷◌, get_or, reverse, ap, ◌∙◌}
 use Rattle.cables.specs.Strands.{names_at}
 use Rattle.skein_network.specs.Edges.{strands_at}
 use Rattle.skein_network.proofs.ItemNodes.{at_crossing, four_more}
