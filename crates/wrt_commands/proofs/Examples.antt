@@ -2,7 +2,7 @@
 use Rattle.std.specs.Fmt.{digits}
 use Rattle.std.specs.Prelude.{◌==◌}
 use Rattle.std.specs.List.{slice_split}
-use Rattle.std.proofs.Common.{◌≡◌, ℕ, Bool, true, false, List, [], ◌∷◌, ◌++◌, codes, ap, sym, None, Ok, Err, refl}
+use Rattle.std.proofs.Common.{◌≡◌, ℕ, true, false, List, [], ◌∷◌, ◌++◌, codes, ap, sym, None, Ok, Err, refl}
 use Rattle.ring_identities.specs.Residues.{residue}
 use Rattle.ring_identities.specs.Powers.{power, order_up_to}
 use Rattle.graph_parts.specs.Parts.{part, part_count}

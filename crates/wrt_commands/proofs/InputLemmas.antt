@@ -1,12 +1,11 @@
 -- What the bytes of an input come to, from what their reading does; that this is one thing, and something, where the shape of text has
 -- its two laws; and that diagrams have them.
-use Rattle.std.proofs.Common.{◌≡◌, ◌≢◌, ◌⊎◌, ◌<◌, ◌≤◌, ◌∙◌, inl, inr, ℕ, List, length, Option, Some, None, Result, Ok, Err, refl, sym, ap, arith}
+use Rattle.std.proofs.Common.{◌≡◌, ◌≤◌, ◌∙◌, inl, inr, ℕ, List, length, Option, Some, Result, Ok, Err, refl, sym, ap, arith}
 use Rattle.std.proofs.lemmas.Bool.{cases_lt}
-use Rattle.pd_reader.specs.declared.item.Item.{Item}
 use Rattle.pd_reader.specs.declared.fault.TextFault.{TextFault}
 use Rattle.pd_reader.specs.declared.fault.TextFault.TheVariants as texts
 use Rattle.pd_reader.specs.Refusals.{IsPdRefusal, IsPdReading}
-use Rattle.pd_reader.specs.Faults.{IsNamed, cause, no_memory}
+use Rattle.pd_reader.specs.Faults.{IsNamed, cause}
 use Rattle.pd_reader.proofs.OneReading.{readings_are_unique_lem, readings_exist_lem}
 use Rattle.wrt_commands.specs.declared.refusal.Refusal.{Refusal}
 use Rattle.wrt_commands.specs.declared.refusal.Refusal.TheVariants as refusals

@@ -1,6 +1,6 @@
 -- Two reports of one task begin with one residue: a report comes only where the list of the order is one of the crossings and the
 -- sums meet no limit, and then its residue is the bracket, which names no order.
-use Rattle.std.proofs.Common.{◌≡◌, ◌≤◌, ◌<◌, ◌∙◌, inl, inr, ℕ, Bool, cond, true, false, List, length, Option, Some, None, Result, Ok, Err, refl, sym, ap, subst}
+use Rattle.std.proofs.Common.{◌≡◌, ◌∙◌, inl, inr, ℕ, Bool, cond, true, false, List, Some, None, Result, Ok, Err, refl, sym, ap, subst}
 use Rattle.root_quantum.specs.Parameters.{Parameters}
 use Rattle.pd_reader.specs.declared.item.Item.{Item}
 use Rattle.pd_reader.specs.Torus.{torus_items}

@@ -1,14 +1,12 @@
 -- How a run without a report ends, from why there is none.
-use Rattle.std.proofs.Common.{◌≡◌, ◌<◌, inl, inr, ℕ, List, [], length, true, false, Option, Some, None, Result, Ok, Err, refl, sym, subst}
+use Rattle.std.proofs.Common.{◌≡◌, ◌<◌, inl, inr, ℕ, List, [], length, true, Option, Some, None, Result, Ok, Err, refl, sym, subst}
 use Rattle.std.specs.Prelude.{OnOk, take}
 use Rattle.skein_io.specs.Faults.{Rose}
 use Rattle.skein_io.specs.Sink.{Appends}
 use Rattle.skein_io.specs.declared.writing.Wrote.{Wrote}
 use Rattle.skein_io.specs.declared.writing.Wrote.TheVariants.{Fault}
 use Rattle.root_quantum.specs.Parameters.{Parameters}
-use Rattle.wrt_request.specs.declared.request.Sweep.{Sweep}
 use Rattle.wrt_request.specs.declared.request.Task.{Task}
-use Rattle.wrt_request.specs.declared.request.Task.TheVariants.{Bracket}
 use Rattle.wrt_commands.specs.declared.opening.Opened.{Opened}
 use Rattle.wrt_commands.specs.declared.refusal.Refusal.{Refusal}
 use Rattle.wrt_commands.specs.declared.refusal.Refusal.TheVariants as refusals
@@ -16,11 +14,11 @@ use Rattle.wrt_commands.specs.declared.status.Status.{Status}
 use Rattle.wrt_commands.specs.declared.status.Status.TheVariants as statuses
 use Rattle.wrt_commands.specs.declared.stop.Stop.{Stop}
 use Rattle.wrt_commands.specs.declared.stop.Stop.TheVariants.{Refused, ReadFault, Memory}
-use Rattle.wrt_commands.specs.Openings.{opening, reads_input, is_about_input}
-use Rattle.wrt_commands.specs.Outcomes.{Outcome, IsTaskOutcome, IsOutcomeAt}
+use Rattle.wrt_commands.specs.Openings.{opening, reads_input}
+use Rattle.wrt_commands.specs.Outcomes.{IsTaskOutcome, IsOutcomeAt}
 use Rattle.wrt_commands.specs.Refusals.{status_of}
 use Rattle.wrt_commands.specs.Runs.{Written, IsUntouched, IsPart, Says, IsTold, IsUnread, IsStoppedAt, IsStopped, IsRefusedRun, RunsTo}
-use Rattle.wrt_commands.specs.Stops.{Is, Stops, Answers, status_of_stop, stop_line}
+use Rattle.wrt_commands.specs.Stops.{Is, Stops, status_of_stop, stop_line}
 use Rattle.wrt_commands.specs.TooLongRefusals.{past_limit}
 use Rattle.wrt_commands.proofs.StatusLemmas.{is_refused, refused_status}
 

@@ -1,6 +1,6 @@
 -- What a run ends with is settled by the outcome, but for want of memory and faults of the streams; and a run whose outcome is a report,
 -- and in which no stream failed, ends with it or for want of memory.
-use Rattle.std.proofs.Common.{◌≡◌, ◌≢◌, ◌⊎◌, ◌∙◌, inl, inr, ℕ, List, Some, Option, Result, Ok, Err, refl, subst, sym, ap, Bool, true, false}
+use Rattle.std.proofs.Common.{◌≡◌, ◌≢◌, ◌⊎◌, inl, inr, ℕ, List, Some, Option, Result, Ok, Err, refl, subst, sym, Bool, true, false}
 use Rattle.skein_io.specs.Faults.{Rose}
 use Rattle.wrt_commands.specs.declared.opening.Opened.{Opened}
 use Rattle.wrt_commands.specs.declared.refusal.Refusal.{Refusal}
@@ -8,7 +8,6 @@ use Rattle.wrt_commands.specs.declared.status.Status.{Status}
 use Rattle.wrt_commands.specs.declared.status.Status.TheVariants.{Done, Input, Words, ReadFault, WriteFault, Limit, NoInverse, Memory}
 use Rattle.wrt_commands.specs.Openings.{opening, reads_input}
 use Rattle.wrt_commands.specs.Outcomes.{Outcome, IsOutcome, IsOutcomeAt}
-use Rattle.wrt_commands.specs.Refusals.{status_of}
 use Rattle.wrt_commands.specs.Runs.{Written, IsTold, IsRefusedRun, RunsTo, IsInterrupted, Settles}
 use Rattle.wrt_commands.proofs.UniqueOutcomes.{outcomes_are_unique_law, unread_outcome}
 

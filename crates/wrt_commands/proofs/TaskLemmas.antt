@@ -1,18 +1,17 @@
 -- The answers of the commands as answers of a task.
-use Rattle.std.proofs.Common.{String, Global, ◌≡◌, ◌<◌, inl, ℕ, List, length, true, Option, Result, Ok, Err, refl, sym, ap, subst}
+use Rattle.std.proofs.Common.{String, Global, ◌≡◌, inl, ℕ, List, Option, Result, Ok, Err, refl, sym, ap, subst}
 use Rattle.std.specs.Prelude.{MatchResult, string_bytes}
 use Rattle.wrt_request.specs.declared.request.Sweep.{Sweep}
 use Rattle.wrt_request.specs.declared.request.Task.{Task}
-use Rattle.wrt_request.specs.declared.request.Task.TheVariants.{Bracket, Torus}
+use Rattle.wrt_request.specs.declared.request.Task.TheVariants.{Bracket}
 use Rattle.wrt_commands.specs.declared.opening.Opened.{Opened}
 use Rattle.wrt_commands.specs.declared.refusal.Refusal.TheVariants as refusals
 use Rattle.wrt_commands.specs.declared.stop.Stop.{Stop}
 use Rattle.wrt_commands.specs.Openings.{is_about_input}
 use Rattle.wrt_commands.specs.Outcomes.{IsTaskOutcome, IsOutcomeAt}
 use Rattle.wrt_commands.specs.Runs.{IsTold, IsUnread, IsStoppedAt}
-use Rattle.wrt_commands.specs.Stops.{Is, Stops, Answers}
+use Rattle.wrt_commands.specs.Stops.{Stops, Answers}
 use Rattle.wrt_commands.specs.TooLongRefusals.{past_limit}
-use Rattle.wrt_commands.specs.TorusOutcomes.{torus_outcome}
 use Rattle.wrt_commands.proofs.RunLemmas.{input_stopped, task_stopped}
 
 module _ (asked : Opened) where

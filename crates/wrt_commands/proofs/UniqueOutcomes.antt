@@ -1,5 +1,5 @@
 -- Words and bytes come to exactly one outcome.
-use Rattle.std.proofs.Common.{◌≡◌, ◌∙◌, ℕ, List, true, false, Result, Ok, Err, refl, sym}
+use Rattle.std.proofs.Common.{◌≡◌, ◌∙◌, ℕ, List, false, Result, Ok, Err, refl, sym}
 use Rattle.root_quantum.specs.Parameters.{Parameters}
 use Rattle.wrt_request.specs.declared.request.Task.{Task}
 use Rattle.wrt_request.specs.declared.request.Task.TheVariants.{Bracket, Torus}

@@ -5,7 +5,7 @@
 --     next_by order                  the place that the order takes next
 --     item_order order items         how the order takes the crossings, where its list names each once, or the refusal
 --     diagram_report p sweep items   the report of the bracket, or the first refusal
-use Rattle.std.specs.Prelude.{ℕ, ◌==◌, Bool, true, false, count_by, List, Option, Some, None, Result, Ok, Err, if◌then◌else◌}
+use Rattle.std.specs.Prelude.{ℕ, ◌==◌, Bool, true, false, count_by, List, Result, Ok, Err, if◌then◌else◌}
 use Rattle.root_quantum.specs.Parameters.{Parameters}
 use Rattle.pd_reader.specs.declared.item.Item.{Item}
 use Rattle.pd_reader.specs.declared.item.Item.TheVariants.{X, Loop}

@@ -6,7 +6,6 @@ use Rattle.std.specs.Prelude.{ℕ, Bool, true, false, List, Option, Some, None, 
 use Rattle.root_quantum.specs.Parameters.{Parameters}
 use Rattle.wrt_parts.specs.Texts.{Texts}
 use Rattle.wrt_words.specs.Words.{parts_of}
-use Rattle.wrt_request.specs.declared.request.Numbers.{Numbers}
 use Rattle.wrt_request.specs.declared.request.Request.{Request}
 use Rattle.wrt_request.specs.declared.request.Task.{Task}
 use Rattle.wrt_request.specs.declared.request.Task.TheVariants.{Bracket, Torus}

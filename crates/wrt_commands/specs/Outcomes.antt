@@ -9,7 +9,7 @@
 --
 -- At 41, 2, 5 the trefoil comes to the report "10" and a line feed, and with the turns to "turns 10" in a line behind it
 -- (proofs/Examples.antt).
-use Rattle.std.specs.Prelude.{◌≡◌, ℕ, List, Result, Ok, Err}
+use Rattle.std.specs.Prelude.{ℕ, List, Result, Ok, Err}
 use Rattle.root_quantum.specs.Parameters.{Parameters}
 use Rattle.wrt_request.specs.declared.request.Task.{Task}
 use Rattle.wrt_request.specs.declared.request.Task.TheVariants.{Bracket, Torus}
