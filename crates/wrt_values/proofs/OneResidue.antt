@@ -1,5 +1,5 @@
 -- The residue of a bracket is that of the sum over all states, in whatever order the crossings are taken.
-use Rattle.std.proofs.Common.{◌≡◌, ℕ, List, Option, Some, None, Ok, Err, refl}
+use Rattle.std.proofs.Common.{◌≡◌, ℕ, List, Option, Some, None, Ok}
 use Rattle.state_sums.specs.Networks.{Node}
 use Rattle.root_quantum.specs.Parameters.{Parameters}
 use Rattle.pd_reader.specs.declared.item.Item.{Item}
