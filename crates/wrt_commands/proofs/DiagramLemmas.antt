@@ -12,10 +12,23 @@ use Rattle.wrt_request.specs.declared.request.Sweep.{Sweep}
 use Rattle.wrt_commands.specs.declared.refusal.Refusal.{Refusal}
 use Rattle.wrt_commands.specs.declared.refusal.Refusal.TheVariants.{Value as ValueRefused}
 use Rattle.wrt_commands.specs.declared.stop.Stop.{Stop}
-use Rattle.wrt_commands.specs.DiagramReports.{planar, item_order, with_value, with_order, with_plane, diagram_report}
-use Rattle.wrt_commands.specs.Stops.{after, refused_as, Is, Stops, stop_of_value}
+use Rattle.wrt_commands.specs.DiagramReports.{planar, item_order, diagram_report}
+use Rattle.wrt_commands.specs.Reports.{value_report}
+use Rattle.wrt_request.specs.Stages.{after}
+use Rattle.wrt_commands.specs.Stops.{refused_as, Is, Stops, stop_of_value}
 use Rattle.wrt_commands.proofs.StageLemmas.{ends}
 
+-- ---- the steps behind a value, an order and a plane
+abbrev pub with_value : Sweep → Value → Result (List ℕ) Refusal
+with_value sweep value = Ok (value_report sweep.turns value)
+
+abbrev pub with_order : Parameters → Sweep → List Item → (View → ℕ) → Result (List ℕ) Refusal
+with_order p sweep items next = after (refused_as ValueRefused (bracket_value next p items)) (with_value sweep)
+
+abbrev pub with_plane : Parameters → Sweep → List Item → Result (List ℕ) Refusal
+with_plane p sweep items = after (item_order sweep.order items) (with_order p sweep items)
+
+-- ---- stops
 -- a value that is refused, or for which there was no memory
 value_stopped : {A : Type 0} (found : Result Value ValueRefusal) (next : Value → Result A Refusal) (fault : ValueFault) → Fails found fault
     → Stops (Is (after (refused_as ValueRefused found) next)) (stop_of_value fault)

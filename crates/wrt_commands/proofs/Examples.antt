@@ -29,7 +29,8 @@ use Rattle.wrt_commands.specs.declared.refusal.Refusal.TheVariants.{Words, Param
 use Rattle.wrt_commands.specs.declared.words_refusal.WordsRefusal.TheVariants.{NoCommandLine, Parts}
 use Rattle.wrt_commands.specs.DiagramReports.{diagram_report}
 use Rattle.wrt_commands.specs.Openings.{opening, opened}
-use Rattle.wrt_commands.specs.Stops.{after, refused_as}
+use Rattle.wrt_request.specs.Stages.{after}
+use Rattle.wrt_commands.specs.Stops.{refused_as}
 use Rattle.wrt_commands.specs.TorusOutcomes.{torus_outcome}
 use Rattle.wrt_commands.proofs.ParametersLemmas.{made_law}
 

@@ -13,8 +13,9 @@ use Rattle.wrt_commands.specs.declared.refusal.Refusal.TheVariants as refusals
 use Rattle.wrt_commands.specs.declared.stop.Stop.{Stop}
 use Rattle.wrt_commands.specs.declared.text_refusal.Counted.TheVariants.{Items}
 use Rattle.wrt_commands.specs.declared.text_refusal.TextRefusal.{TextRefusal}
-use Rattle.wrt_commands.specs.Inputs.{IsText, IsInput, IsPd, HasOneText, HasText}
-use Rattle.wrt_commands.specs.Stops.{after, Is, Stops, Answers}
+use Rattle.wrt_commands.specs.Inputs.{IsTextOutcome, IsInputOutcome, IsPdOutcome, HasOneOutcome, HasOutcome}
+use Rattle.wrt_request.specs.Stages.{after}
+use Rattle.wrt_commands.specs.Stops.{Is, Stops, Answers}
 use Rattle.wrt_commands.specs.TextRefusals.{refusal_of_text, stop_of_text}
 use Rattle.wrt_commands.specs.TooLongRefusals.{past_limit}
 use Rattle.wrt_commands.proofs.StageLemmas.{stops_as, answers_as}
@@ -22,23 +23,23 @@ use Rattle.wrt_commands.proofs.StageLemmas.{stops_as, answers_as}
 -- ---- any shape
 module _ {A B : Type 0} (is_text : List ℕ → Result A Refusal → Type 0) (next : A → Result B Refusal) (bytes : List ℕ) where
   -- a text that is refused
-  pub text_stops : length bytes ≤ 1048576 → (of stop : Stop) → stop ≡ of → Stops (is_text bytes) of → Stops (IsInput is_text next bytes) stop
-  text_stops short = stops_as (is_text bytes) (IsInput is_text next bytes) (λ refusal h. inr (short, (Err refusal, h, refl)))
+  pub text_stops : length bytes ≤ 1048576 → (of stop : Stop) → stop ≡ of → Stops (is_text bytes) of → Stops (IsInputOutcome is_text next bytes) stop
+  text_stops short = stops_as (is_text bytes) (IsInputOutcome is_text next bytes) (λ refusal h. inr (short, (Err refusal, h, refl)))
 
   -- one that is read
   pub text_answers : {C : Type 0} (view : C → B) (value : A) → length bytes ≤ 1048576 → is_text bytes (Ok value) → (result : Result C Stop) → Answers (Is (next value)) view result
-      → Answers (IsInput is_text next bytes) view result
-  text_answers view value short read = answers_as (Is (next value)) (IsInput is_text next bytes) view (λ outcome h. inr (short, (Ok value, read, sym h)))
+      → Answers (IsInputOutcome is_text next bytes) view result
+  text_answers view value short read = answers_as (Is (next value)) (IsInputOutcome is_text next bytes) view (λ outcome h. inr (short, (Ok value, read, sym h)))
 
   -- at most one thing
-  pub one_input : HasOneText is_text → (x y : Result B Refusal) → IsInput is_text next bytes x → IsInput is_text next bytes y → x ≡ y
+  pub one_input : HasOneOutcome is_text → (x y : Result B Refusal) → IsInputOutcome is_text next bytes x → IsInputOutcome is_text next bytes y → x ≡ y
   one_input one x y (inl h) (inl k) = h.1 ∙ sym k.1
   one_input one x y (inl h) (inr k) = let long = h.0 in let short = k.0 in absurd (omega (arith, long, short))
   one_input one x y (inr h) (inl k) = let short = h.0 in let long = k.0 in absurd (omega (arith, long, short))
   one_input one x y (inr h) (inr k) = h.1.2 ∙ ap (λ read. after read next) (one bytes h.1.0 k.1.0 h.1.1 k.1.1) ∙ sym k.1.2
 
   -- and something
-  pub some_input : HasText is_text → (outcome : Result B Refusal) × IsInput is_text next bytes outcome
+  pub some_input : HasOutcome is_text → (outcome : Result B Refusal) × IsInputOutcome is_text next bytes outcome
   some_input some =
       elim (cases_lt 1048576 (length bytes)) [
         | inl long ↦ (Err (refusals.TooLong past_limit), inl (long, refl))
@@ -47,11 +48,11 @@ module _ {A B : Type 0} (is_text : List ℕ → Result A Refusal → Type 0) (ne
 
 -- ---- the laws of a shape, by those of its reader
 module _ {A F : Type 0} (reading : List ℕ → Result A F → Type 0) (refusal_of : F → Option TextRefusal) where
-  one_text : ((bytes : List ℕ) (x y : Result A F) → reading bytes x → reading bytes y → x ≡ y) → HasOneText (IsText reading refusal_of)
-  one_text one bytes (Ok x) (Ok y) h k = let e = one bytes (Ok x) (Ok y) h k in cc
-  one_text one bytes (Ok x) (Err refusal) h k = let e = one bytes (Ok x) (Err k.0) h k.2 in absurd (cc)
-  one_text one bytes (Err refusal) (Ok y) h k = let e = one bytes (Ok y) (Err h.0) k h.2 in absurd (cc)
-  one_text one bytes (Err refusal) (Err other) h k =
+  one_outcome_of_text : ((bytes : List ℕ) (x y : Result A F) → reading bytes x → reading bytes y → x ≡ y) → HasOneOutcome (IsTextOutcome reading refusal_of)
+  one_outcome_of_text one bytes (Ok x) (Ok y) h k = let e = one bytes (Ok x) (Ok y) h k in cc
+  one_outcome_of_text one bytes (Ok x) (Err refusal) h k = let e = one bytes (Ok x) (Err k.0) h k.2 in absurd (cc)
+  one_outcome_of_text one bytes (Err refusal) (Ok y) h k = let e = one bytes (Ok y) (Err h.0) k h.2 in absurd (cc)
+  one_outcome_of_text one bytes (Err refusal) (Err other) h k =
       let e = one bytes (Err h.0) (Err k.0) h.2 k.2 in
       let same : h.0 ≡ k.0 = cc in
       let told = ap refusal_of same in
@@ -60,13 +61,13 @@ module _ {A F : Type 0} (reading : List ℕ → Result A F → Type 0) (refusal_
       ap Err (h.4 ∙ ap refusals.Text refused ∙ sym k.4)
 
   text_of_reading : ((bytes : List ℕ) (fault : F) → reading bytes (Err fault) → (refused : TextRefusal) × (refusal_of fault ≡ Some refused)) → (bytes : List ℕ) → (read : Result A F) → reading bytes read
-      → (text : Result A Refusal) × IsText reading refusal_of bytes text
+      → (text : Result A Refusal) × IsTextOutcome reading refusal_of bytes text
   text_of_reading told bytes (Ok value) h = (Ok value, h)
   text_of_reading told bytes (Err fault) h = let t = told bytes fault h in (Err (refusals.Text t.0), (fault, t.0, h, t.1, refl))
 
 -- ---- diagrams
-pub pd_one_text : HasOneText IsPd
-pd_one_text = one_text IsPdReading (refusal_of_text Items) readings_are_unique_lem.0
+pub pd_one_outcome : HasOneOutcome IsPdOutcome
+pd_one_outcome = one_outcome_of_text IsPdReading (refusal_of_text Items) readings_are_unique_lem.0
 
 pd_told : (bytes : List ℕ) (fault : TextFault) → IsPdReading bytes (Err fault) → (refused : TextRefusal) × (refusal_of_text Items fault ≡ Some refused)
 pd_told bytes (texts.Head at) h = (_, refl)
@@ -76,11 +77,11 @@ pd_told bytes (texts.TooMany limit) h = (_, refl)
 pd_told bytes (texts.Label label count) h = (_, refl)
 pd_told bytes texts.Memory h = absurd (h.0 refl)
 
-pub pd_text : HasText IsPd
-pd_text bytes = let r = readings_exist_lem.0 bytes in text_of_reading IsPdReading (refusal_of_text Items) pd_told bytes r.0 r.1
+pub pd_outcome : HasOutcome IsPdOutcome
+pd_outcome bytes = let r = readings_exist_lem.0 bytes in text_of_reading IsPdReading (refusal_of_text Items) pd_told bytes r.0 r.1
 
 -- a fault of the reader
-pub pd_stops : (bytes : List ℕ) (fault : TextFault) → IsPdRefusal bytes fault → IsNamed bytes (cause fault) → Stops (IsPd bytes) (stop_of_text Items fault)
+pub pd_stops : (bytes : List ℕ) (fault : TextFault) → IsPdRefusal bytes fault → IsNamed bytes (cause fault) → Stops (IsPdOutcome bytes) (stop_of_text Items fault)
 pd_stops bytes (texts.Head at) h named = (texts.Head at, _, ((λ e. cc), h, named), refl, refl)
 pd_stops bytes (texts.Number at) h named = (texts.Number at, _, ((λ e. cc), h, named), refl, refl)
 pd_stops bytes (texts.Text at) h named = (texts.Text at, _, ((λ e. cc), h, named), refl, refl)

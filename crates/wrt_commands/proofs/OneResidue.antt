@@ -17,14 +17,16 @@ use Rattle.wrt_commands.specs.declared.opening.Opened.{Opened}
 use Rattle.wrt_commands.specs.declared.refusal.Refusal.{Refusal}
 use Rattle.wrt_commands.specs.declared.refusal.Refusal.TheVariants.{Value as ValueRefused}
 use Rattle.wrt_commands.specs.BracketOutcomes.{IsBracketOutcome}
-use Rattle.wrt_commands.specs.DiagramReports.{planar, item_order, with_value, with_order, with_plane, diagram_report}
-use Rattle.wrt_commands.specs.Inputs.{IsPd}
+use Rattle.wrt_commands.specs.DiagramReports.{item_order, diagram_report}
+use Rattle.wrt_commands.specs.Inputs.{IsPdOutcome}
 use Rattle.wrt_commands.specs.Laws.{IsReportOf, ReportsAreOfBrackets, OneResidue, plain_task, AskAlike}
 use Rattle.wrt_commands.specs.Openings.{opening}
 use Rattle.wrt_commands.specs.Outcomes.{IsTaskOutcome, IsOutcomeAt}
 use Rattle.wrt_commands.specs.Reports.{report_of}
-use Rattle.wrt_commands.specs.Stops.{after, refused_as}
-use Rattle.wrt_commands.proofs.InputLemmas.{pd_one_text}
+use Rattle.wrt_request.specs.Stages.{after}
+use Rattle.wrt_commands.specs.Stops.{refused_as}
+use Rattle.wrt_commands.proofs.DiagramLemmas.{with_value, with_order, with_plane}
+use Rattle.wrt_commands.proofs.InputLemmas.{pd_one_outcome}
 
 -- ---- one diagram
 of_value : (p : Parameters) (sweep : Sweep) (items : List Item) (found : Result Value ValueRefusal) (report : List ℕ) → ((value : Value) → found ≡ Ok value → value.residue ≡ bracket p items)
@@ -49,11 +51,11 @@ reports_are_of_brackets_law p sweep items report h = of_faces p sweep items _ _ 
 
 -- ---- one input
 -- a report comes of items that the bytes are read as
-report_of_text : (p : Parameters) (sweep : Sweep) (bytes report : List ℕ) → IsBracketOutcome p sweep bytes (Ok report) → (items : List Item) × IsPd bytes (Ok items) × IsReportOf (bracket p items) report
+report_of_text : (p : Parameters) (sweep : Sweep) (bytes report : List ℕ) → IsBracketOutcome p sweep bytes (Ok report) → (items : List Item) × IsPdOutcome bytes (Ok items) × IsReportOf (bracket p items) report
 report_of_text p sweep bytes report (inl long) = let e = long.1 in absurd (cc)
 report_of_text p sweep bytes report (inr read) = go read.1.0 read.1.1 read.1.2
   where
-    go : (text : Result (List Item) Refusal) → IsPd bytes text → Ok report ≡ after text (diagram_report p sweep) → (items : List Item) × IsPd bytes (Ok items) × IsReportOf (bracket p items) report
+    go : (text : Result (List Item) Refusal) → IsPdOutcome bytes text → Ok report ≡ after text (diagram_report p sweep) → (items : List Item) × IsPdOutcome bytes (Ok items) × IsReportOf (bracket p items) report
     go (Ok items) is e = (items, is, reports_are_of_brackets_law p sweep items report (sym e))
     go (Err refusal) is e = absurd (cc)
 
@@ -64,7 +66,7 @@ of_inputs : (p : Parameters) (sweep swept : Sweep) (bytes report other : List �
 of_inputs p sweep swept bytes report other h k =
     let r = report_of_text p sweep bytes report h in
     let s = report_of_text p swept bytes other k in
-    let e = pd_one_text bytes (Ok r.0) (Ok s.0) r.1 s.1 in
+    let e = pd_one_outcome bytes (Ok r.0) (Ok s.0) r.1 s.1 in
     let same : s.0 ≡ r.0 = cc in
     let P : List Item → Type 0 = λ items. IsReportOf (bracket p items) other in
     (bracket p r.0, r.2, subst P same s.2)

@@ -3,7 +3,8 @@ use Rattle.std.proofs.Common.{◌≡◌, Result, Ok, Err, refl, sym, subst}
 use Rattle.wrt_commands.specs.declared.refusal.Refusal.{Refusal}
 use Rattle.wrt_commands.specs.declared.stop.Stop.{Stop}
 use Rattle.wrt_commands.specs.declared.stop.Stop.TheVariants.{Refused, ReadFault, Memory}
-use Rattle.wrt_commands.specs.Stops.{after, Is, Stops, Answers}
+use Rattle.wrt_request.specs.Stages.{after}
+use Rattle.wrt_commands.specs.Stops.{Is, Stops, Answers}
 
 -- a stop of one stage as that of another whose outcomes have the same refusals
 module _ {A B : Type 0} (P : Result A Refusal → Type 0) (Q : Result B Refusal → Type 0) (refusals : (refusal : Refusal) → P (Err refusal) → Q (Err refusal)) where

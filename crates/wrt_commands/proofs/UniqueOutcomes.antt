@@ -6,16 +6,16 @@ use Rattle.wrt_request.specs.declared.request.Task.TheVariants.{Bracket, Torus}
 use Rattle.wrt_commands.specs.declared.opening.Opened.{Opened}
 use Rattle.wrt_commands.specs.declared.refusal.Refusal.{Refusal}
 use Rattle.wrt_commands.specs.DiagramReports.{diagram_report}
-use Rattle.wrt_commands.specs.Inputs.{IsPd}
+use Rattle.wrt_commands.specs.Inputs.{IsPdOutcome}
 use Rattle.wrt_commands.specs.Laws.{OutcomesAreUnique, OutcomesExist}
 use Rattle.wrt_commands.specs.Openings.{opening, is_about_input, reads_input}
 use Rattle.wrt_commands.specs.Outcomes.{Outcome, IsTaskOutcome, IsOutcomeAt}
 use Rattle.wrt_commands.specs.TorusOutcomes.{torus_outcome}
-use Rattle.wrt_commands.proofs.InputLemmas.{one_input, some_input, pd_one_text, pd_text}
+use Rattle.wrt_commands.proofs.InputLemmas.{one_input, some_input, pd_one_outcome, pd_outcome}
 
 -- ---- at most one
 one_of_task : (p : Parameters) (task : Task) (bytes : List ℕ) (x y : Outcome) → IsTaskOutcome p task bytes x → IsTaskOutcome p task bytes y → x ≡ y
-one_of_task p (Bracket sweep) bytes x y h k = one_input IsPd (diagram_report p sweep) bytes pd_one_text x y h k
+one_of_task p (Bracket sweep) bytes x y h k = one_input IsPdOutcome (diagram_report p sweep) bytes pd_one_outcome x y h k
 one_of_task p (Torus crossings sweep) bytes x y h k = sym h ∙ k
 
 one_outcome : (at : Result Opened Refusal) (bytes : List ℕ) (x y : Outcome) → IsOutcomeAt at bytes x → IsOutcomeAt at bytes y → x ≡ y
@@ -27,7 +27,7 @@ outcomes_are_unique_law words bytes x y h k = one_outcome (opening words) bytes 
 
 -- ---- and one
 of_task : (p : Parameters) (task : Task) (bytes : List ℕ) → (outcome : Outcome) × IsTaskOutcome p task bytes outcome
-of_task p (Bracket sweep) bytes = some_input IsPd (diagram_report p sweep) bytes pd_text
+of_task p (Bracket sweep) bytes = some_input IsPdOutcome (diagram_report p sweep) bytes pd_outcome
 of_task p (Torus crossings sweep) bytes = (torus_outcome p crossings sweep, refl)
 
 of_opening : (at : Result Opened Refusal) (bytes : List ℕ) → (outcome : Outcome) × IsOutcomeAt at bytes outcome

@@ -13,7 +13,6 @@ use Rattle.planar_check.specs.Places.{item_slots, slot_lists}
 use Rattle.planar_check.specs.Planar.{face_count, wanted_faces}
 use Rattle.frontier_laws.specs.Orders.{View, listed_of, greedy_of, given_of}
 use Rattle.wrt_values.specs.Values.{bracket_value}
-use Rattle.wrt_values.specs.declared.value.Value.{Value}
 use Rattle.wrt_request.specs.declared.order.OrderWord.{OrderWord}
 use Rattle.wrt_request.specs.declared.order.OrderWord.TheVariants.{Listed, Greedy, Given}
 use Rattle.wrt_request.specs.declared.request.Sweep.{Sweep}
@@ -22,7 +21,8 @@ use Rattle.wrt_commands.specs.declared.refusal.Refusal.{Refusal}
 use Rattle.wrt_commands.specs.declared.refusal.Refusal.TheVariants.{Plane, Arguments, Value as ValueRefused}
 use Rattle.wrt_commands.specs.ItemOrders.{is_order_of}
 use Rattle.wrt_commands.specs.Reports.{value_report}
-use Rattle.wrt_commands.specs.Stops.{after, refused_as}
+use Rattle.wrt_request.specs.Stages.{after}
+use Rattle.wrt_commands.specs.Stops.{refused_as}
 
 -- The items, where they have as many faces as planar ones.
 abbrev pub planar : List Item → Result (List Item) Refusal
@@ -51,18 +51,10 @@ abbrev pub item_order : OrderWord → List Item → Result (View → ℕ) Refusa
 item_order order items =
     if is_order_of (crossing_count items) order then Ok (next_by order) else Err (Arguments (Order (crossing_count items)))
 
--- What a value comes to.
-abbrev pub with_value : Sweep → Value → Result (List ℕ) Refusal
-with_value sweep value = Ok (value_report sweep.turns value)
-
--- What a planar diagram comes to, whose crossings are taken so.
-abbrev pub with_order : Parameters → Sweep → List Item → (View → ℕ) → Result (List ℕ) Refusal
-with_order p sweep items next = after (refused_as ValueRefused (bracket_value next p items)) (with_value sweep)
-
--- What a planar diagram comes to.
-abbrev pub with_plane : Parameters → Sweep → List Item → Result (List ℕ) Refusal
-with_plane p sweep items = after (item_order sweep.order items) (with_order p sweep items)
-
--- What a diagram comes to.
+-- What a diagram comes to: it is planar, its order is one, its value is within the limits; then its report.
 abbrev pub diagram_report : Parameters → Sweep → List Item → Result (List ℕ) Refusal
-diagram_report p sweep items = after (planar items) (with_plane p sweep)
+diagram_report p sweep items =
+    after (planar items) (λ flat.
+    after (item_order sweep.order flat) (λ next.
+    after (refused_as ValueRefused (bracket_value next p flat)) (λ value.
+    Ok (value_report sweep.turns value))))

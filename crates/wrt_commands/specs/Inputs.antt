@@ -1,11 +1,11 @@
 -- What the bytes of an input come to, for any shape of text. A shape says what the bytes are read as, in a relation: a value, or a
 -- fault of its reader, which is the refusal that `refusal_of` tells, and none for want of memory. (This project's own.)
 --
---     IsText reading refusal_of bytes read      the bytes are read as this value, or are refused so
---     IsInput is_text next bytes outcome        what the bytes come to, where a value comes to what `next` tells: they are too long, or
---                                               they are a text, of a value or refused
---     HasOneText, HasText is_text               the two laws of a shape: bytes are at most one thing, and one at least
---     IsPd bytes read                           the shape of diagrams: `PD[..]`
+--     IsTextOutcome reading refusal_of bytes outcome    the bytes are read as this value, or are refused so
+--     IsInputOutcome is_text next bytes outcome         what the bytes come to, where a value comes to what `next` tells: they are
+--                                                       too long, or they are a text, of a value or refused
+--     HasOneOutcome, HasOutcome is_text                 the two laws of a shape: bytes come to at most one outcome, and to one at least
+--     IsPdOutcome bytes outcome                         the shape of diagrams: `PD[..]`
 use Rattle.std.specs.Prelude.{◌≡◌, ◌⊎◌, ℕ, ◌<◌, ◌≤◌, List, length, Option, Some, Result, Ok, Err}
 use Rattle.pd_reader.specs.declared.item.Item.{Item}
 use Rattle.pd_reader.specs.Refusals.{IsPdReading}
@@ -15,31 +15,31 @@ use Rattle.wrt_commands.specs.declared.text_refusal.Counted.TheVariants.{Items}
 use Rattle.wrt_commands.specs.declared.text_refusal.TextRefusal.{TextRefusal}
 use Rattle.wrt_commands.specs.TextRefusals.{refusal_of_text}
 use Rattle.wrt_commands.specs.TooLongRefusals.{past_limit}
-use Rattle.wrt_commands.specs.Stops.{after}
+use Rattle.wrt_request.specs.Stages.{after}
 
 -- The bytes are refused as texts of the shape: for a fault of its reader that is this refusal.
-abbrev pub IsTextRefusal : {A F : Type 0} → (List ℕ → Result A F → Type 0) → (F → Option TextRefusal) → List ℕ → Refusal → Type 0
-IsTextRefusal {F = F} reading refusal_of bytes refusal = (fault : F) × (refused : TextRefusal) × reading bytes (Err fault) × (refusal_of fault ≡ Some refused) × (refusal ≡ Text refused)
+abbrev pub IsRefusedText : {A F : Type 0} → (List ℕ → Result A F → Type 0) → (F → Option TextRefusal) → List ℕ → Refusal → Type 0
+IsRefusedText {F = F} reading refusal_of bytes refusal = (fault : F) × (refused : TextRefusal) × reading bytes (Err fault) × (refusal_of fault ≡ Some refused) × (refusal ≡ Text refused)
 
 -- The bytes are read as this value, or are refused so.
-abbrev pub IsText : {A F : Type 0} → (List ℕ → Result A F → Type 0) → (F → Option TextRefusal) → List ℕ → Result A Refusal → Type 0
-IsText reading refusal_of bytes (Ok value) = reading bytes (Ok value)
-IsText reading refusal_of bytes (Err refusal) = IsTextRefusal reading refusal_of bytes refusal
+abbrev pub IsTextOutcome : {A F : Type 0} → (List ℕ → Result A F → Type 0) → (F → Option TextRefusal) → List ℕ → Result A Refusal → Type 0
+IsTextOutcome reading refusal_of bytes (Ok value) = reading bytes (Ok value)
+IsTextOutcome reading refusal_of bytes (Err refusal) = IsRefusedText reading refusal_of bytes refusal
 
 -- What the bytes come to.
-abbrev pub IsInput : {A B : Type 0} → (List ℕ → Result A Refusal → Type 0) → (A → Result B Refusal) → List ℕ → Result B Refusal → Type 0
-IsInput {A = A} is_text next bytes outcome =
+abbrev pub IsInputOutcome : {A B : Type 0} → (List ℕ → Result A Refusal → Type 0) → (A → Result B Refusal) → List ℕ → Result B Refusal → Type 0
+IsInputOutcome {A = A} is_text next bytes outcome =
     ((1048576 < length bytes) × (outcome ≡ Err (TooLong past_limit)))
     ⊎ ((length bytes ≤ 1048576) × ((read : Result A Refusal) × is_text bytes read × (outcome ≡ after read next)))
 
 -- ---- the laws of a shape
-abbrev pub HasOneText : {A : Type 0} → (List ℕ → Result A Refusal → Type 0) → Type 0
-HasOneText {A = A} is_text = (bytes : List ℕ) (x y : Result A Refusal) → is_text bytes x → is_text bytes y → x ≡ y
+abbrev pub HasOneOutcome : {A : Type 0} → (List ℕ → Result A Refusal → Type 0) → Type 0
+HasOneOutcome {A = A} is_text = (bytes : List ℕ) (x y : Result A Refusal) → is_text bytes x → is_text bytes y → x ≡ y
 
-abbrev pub HasText : {A : Type 0} → (List ℕ → Result A Refusal → Type 0) → Type 0
-HasText {A = A} is_text = (bytes : List ℕ) → (read : Result A Refusal) × is_text bytes read
+abbrev pub HasOutcome : {A : Type 0} → (List ℕ → Result A Refusal → Type 0) → Type 0
+HasOutcome {A = A} is_text = (bytes : List ℕ) → (read : Result A Refusal) × is_text bytes read
 
 -- ---- the shapes
 -- Diagrams: their limit is on items.
-abbrev pub IsPd : List ℕ → Result (List Item) Refusal → Type 0
-IsPd = IsText IsPdReading (refusal_of_text Items)
+abbrev pub IsPdOutcome : List ℕ → Result (List Item) Refusal → Type 0
+IsPdOutcome = IsTextOutcome IsPdReading (refusal_of_text Items)

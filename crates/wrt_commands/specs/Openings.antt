@@ -17,7 +17,8 @@ use Rattle.wrt_commands.specs.declared.refusal.Refusal.{Refusal}
 use Rattle.wrt_commands.specs.declared.refusal.Refusal.TheVariants.{Words, Parameters as ParametersRefused}
 use Rattle.wrt_commands.specs.declared.words_refusal.WordsRefusal.TheVariants.{NoCommandLine, Parts}
 use Rattle.wrt_commands.specs.Parameters.{parameters_of}
-use Rattle.wrt_commands.specs.Stops.{after, refused_as}
+use Rattle.wrt_request.specs.Stages.{after}
+use Rattle.wrt_commands.specs.Stops.{refused_as}
 
 -- The words are a command line with these parts, by `clap`'s definition, or are refused.
 abbrev pub line_of : Option Texts → Result Texts Refusal

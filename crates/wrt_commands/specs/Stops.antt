@@ -4,7 +4,6 @@
 --     text_of_stop stop           the fault line, without "wrtcalc: " before it and the line feed behind it
 --     stop_line stop              the whole line
 --     write_line                  the line of a failed write
---     after first next            what follows from the first step, or its refusal: outcomes are bound so, step by step
 --     refused_as wrap result      the same result, where the refusal of a layer is one of the run
 --     Is defined outcome          the outcome is the definition's
 --     Stops P stop                the stage stops for a refusal that is an outcome, or for want of memory
@@ -40,11 +39,6 @@ write_line = codes "wrtcalc: write failed" ++ 10 ∷ []
 abbrev pub stop_of_value : ValueFault → Stop
 stop_of_value (values.Refused refusal) = Refused (Value refusal)
 stop_of_value values.Memory = Memory
-
--- What follows from the first step, or its refusal.
-abbrev pub after : {A B : Type 0} → Result A Refusal → (A → Result B Refusal) → Result B Refusal
-after (Ok first) next = next first
-after (Err refusal) next = Err refusal
 
 -- The refusal of a layer, as one of the run.
 abbrev pub refused_as : {A R : Type 0} → (R → Refusal) → Result A R → Result A Refusal

@@ -3,7 +3,7 @@
 ghost use Rattle.std.specs.Prelude.{◌≡◌, ◌≢◌, ◌≤◌, Err, MatchResult, OnOk};
 ghost use Rattle.skein_io.specs.Faults.{Rose};
 ghost use Rattle.skein_io.specs.Source.{IsSuffix};
-ghost use Rattle.wrt_commands.specs.Inputs.{IsPd};
+ghost use Rattle.wrt_commands.specs.Inputs.{IsPdOutcome};
 ghost use Rattle.wrt_commands.specs.Runs.{IsAtEnd, IsRead, IsUnread};
 ghost use Rattle.wrt_commands.specs.Stops.{Answers};
 ghost use Rattle.wrt_commands.specs.TextRefusals.{stop_of_text};
@@ -51,7 +51,7 @@ fn refused_text(fault: TextFault, counted: Counted) -> Stop
 
 /// The diagram that the bytes spell.
 pub(crate) fn read_diagram(alloc: Global, bytes: &[u8]) -> Result<Diagram, Stop>
-    ensures { Answers (IsPd bytes.now) (λ diagram. diagram) result }
+    ensures { Answers (IsPdOutcome bytes.now) (λ diagram. diagram) result }
 {
     match read_pd(alloc, bytes) {
         Ok(diagram) => Ok(diagram),

@@ -81,13 +81,9 @@ fn taken_words_have_their_parts(rt: HostRuntime) -> Result<(), Fail> {
             Err(fault) => return Err(fault.into()),
         };
         let (command, numbers, options, turns) = wanted;
-        assert_eq!(rt; parts.command, command);
-        assert_eq!(rt; parts.numbers.as_slice(), numbers);
-        assert_eq!(rt;
-            [parts.colors, parts.framing, parts.workers, parts.order],
-            options
-        );
-        assert_eq!(rt; parts.turns, turns);
+        let given = [parts.colors, parts.framing, parts.workers, parts.order];
+        assert!(rt; parts.command == command && parts.numbers.as_slice() == numbers, "{words:?}");
+        assert!(rt; given == options && parts.turns == turns, "{words:?}");
     }
     Ok(())
 }

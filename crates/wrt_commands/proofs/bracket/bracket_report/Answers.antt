@@ -1,15 +1,15 @@
 use Rattle.std.proofs.Common.{string_bytes}
 use Rattle.std.proofs.lemmas.Result.{err_from_is_err_and}
 use Rattle.wrt_commands.specs.DiagramReports.{diagram_report}
-use Rattle.wrt_commands.specs.Inputs.{IsPd}
+use Rattle.wrt_commands.specs.Inputs.{IsPdOutcome}
 use Rattle.wrt_commands.proofs.InputLemmas.{text_stops, text_answers}
 use Rattle.wrt_commands.proofs.bracket.bracket_report.Goals as goal
 
 pub returns-in_err-diagram : goal.returns-in_err-diagram
 returns-in_err-diagram c =
     let p = err_from_is_err_and c.from_residual.result c.from_residual.ensures.1 in
-    rw p.1 (text_stops IsPd (diagram_report c.args.params.now c.args.sweep.now) c.args.bytes.now c.requires _ p.0 p.2 c.in_err-diagram.ensures)
+    rw p.1 (text_stops IsPdOutcome (diagram_report c.args.params.now c.args.sweep.now) c.args.bytes.now c.requires _ p.0 p.2 c.in_err-diagram.ensures)
 
 pub returns : goal.returns
 returns c =
-    text_answers IsPd (diagram_report c.args.params.now c.args.sweep.now) c.args.bytes.now string_bytes c.in_ok-diagram.diagram c.requires c.in_ok-diagram.ensures c.diagram_report.result c.diagram_report.ensures
+    text_answers IsPdOutcome (diagram_report c.args.params.now c.args.sweep.now) c.args.bytes.now string_bytes c.in_ok-diagram.diagram c.requires c.in_ok-diagram.ensures c.diagram_report.result c.diagram_report.ensures
