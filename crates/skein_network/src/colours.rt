@@ -17,8 +17,9 @@ fn first_above(colours: &[u32], top: u32) -> Option<u32>
     None
 }
 
-/// Refuses a list that hasn't as many colours as wanted, or has one past the top.
-pub(crate) fn check_colours(colours: &[u32], wanted: u32, top: u32) -> Result<(), CableFault>
+/// Refuses a list that hasn't as many colours as wanted, or has one past the top: `cable` refuses these for a link
+/// diagram, whose components are wanted, before anything else. It takes no memory.
+pub fn check_colours(colours: &[u32], wanted: u32, top: u32) -> Result<(), CableFault>
     ensures ok { OnOk result (colour_refusal top wanted colours.now ≡ None) }
     ensures refused { IfErr result (λ fault. colour_refusal top wanted colours.now ≡ Some fault) }
 {

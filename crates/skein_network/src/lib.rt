@@ -21,9 +21,10 @@ mod progress;
 mod projectors;
 mod strand;
 
+pub use colours::check_colours;
 pub use diagram::cable;
 pub use fault::CableFault;
-pub use net::cable_net;
+pub use net::{cable_net, check_net_colours};
 
 #[cfg(test)]
 mod tests;

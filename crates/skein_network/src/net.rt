@@ -65,6 +65,23 @@ fn checked_edges(
     Ok(edges)
 }
 
+/// Refuses colours that don't fit a net: `cable_net` refuses these before anything else. `NoInverse` never comes.
+pub fn check_net_colours(
+    alloc: Global,
+    net: &PlanarNet,
+    colours: &[u32],
+    top: u32,
+) -> Result<(), CableFault>
+    requires { top ≤ 8 }
+    ensures fits { OnOk result (net_refusal top net.now colours.now ≡ None) }
+    ensures refused { IfErr result (λ fault. (fault ≡ CableFault.Memory) ⊎ (net_refusal top net.now colours.now ≡ Some fault)) }
+{
+    match checked_edges(alloc, net, colours, top) {
+        Ok(_) => Ok(()),
+        Err(fault) => Err(fault),
+    }
+}
+
 /// The cable of a net (Kauffman and Lins): one colour for each label, in increasing order of labels; each edge with places
 /// and a colour of at least 2 has a box. The notes are the table's, and the colours at most its top.
 ///

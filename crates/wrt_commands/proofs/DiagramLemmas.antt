@@ -30,7 +30,7 @@ with_plane p sweep items = after (item_order sweep.order items) (with_order p sw
 
 -- ---- stops
 -- a value that is refused, or for which there was no memory
-value_stopped : {A : Type 0} (found : Result Value ValueRefusal) (next : Value → Result A Refusal) (fault : ValueFault) → Fails found fault
+pub value_stopped : {A : Type 0} (found : Result Value ValueRefusal) (next : Value → Result A Refusal) (fault : ValueFault) → Fails found fault
     → Stops (Is (after (refused_as ValueRefused found) next)) (stop_of_value fault)
 value_stopped found next (values.Refused refusal) h = rw h refl
 value_stopped found next values.Memory h = tt

@@ -3,8 +3,10 @@ pub mod InputLemmas
 pub mod ParametersLemmas
 pub mod StatusLemmas
 pub mod DiagramLemmas
+pub mod ColouredLemmas
 pub mod RunLemmas
 pub mod TaskLemmas
+pub mod NoWords
 pub mod UniqueOutcomes
 pub mod Settled
 pub mod OneResidue

@@ -22,6 +22,11 @@ pub answers_as : {A B : Type 0} (P Q : Result A Refusal → Type 0) (view : B �
 answers_as P Q view outcomes (Ok value) h = outcomes (Ok (view value)) h
 answers_as P Q view outcomes (Err stop) h = stopped P Q (λ refusal. outcomes (Err refusal)) stop h
 
+-- ---- what is bound behind a stage that gives a value answers for both
+pub goes_on : {A B C : Type 0} (first : Result A Refusal) (next : A → Result B Refusal) (view : C → B) (value : A) → first ≡ Ok value → (result : Result C Stop) → Answers (Is (next value)) view result
+    → Answers (Is (after first next)) view result
+goes_on first next view value is result h = let P : Result _ Refusal → Type 0 = λ f. Answers (Is (after f next)) view result in subst P (sym is) h
+
 -- ---- THROUGH `?`
 -- a stage that stops ends what is bound behind it
 pub ends : {A B : Type 0} (first : Result A Refusal) (next : A → Result B Refusal) → (of stop : Stop) → stop ≡ of → Stops (Is first) of → Stops (Is (after first next)) stop

@@ -33,6 +33,7 @@ refused_status (Text (texts.TooMany limit counted)) = refl
 refused_status (Text (texts.Label label count)) = refl
 refused_status (Plane refusal) = refl
 refused_status (Arguments refusal) = refl
+refused_status (Value (values.NoInverse index common)) = refl
 refused_status (Value (values.Wide step ends)) = refl
 refused_status (Value (values.Table step)) = refl
 

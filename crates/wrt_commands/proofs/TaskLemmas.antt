@@ -1,9 +1,9 @@
 -- The answers of the commands as answers of a task.
-use Rattle.std.proofs.Common.{String, Global, ◌≡◌, inl, ℕ, List, Option, Result, Ok, Err, refl, sym, ap, subst}
+use Rattle.std.proofs.Common.{String, Global, ◌≡◌, ◌∙◌, ◌<◌, inl, ℕ, List, length, true, Option, Result, Ok, Err, refl, sym, ap, subst}
 use Rattle.std.specs.Prelude.{MatchResult, string_bytes}
 use Rattle.wrt_request.specs.declared.request.Sweep.{Sweep}
 use Rattle.wrt_request.specs.declared.request.Task.{Task}
-use Rattle.wrt_request.specs.declared.request.Task.TheVariants.{Bracket}
+use Rattle.wrt_request.specs.declared.request.Task.TheVariants.{Bracket, Colored, Torus}
 use Rattle.wrt_commands.specs.declared.opening.Opened.{Opened}
 use Rattle.wrt_commands.specs.declared.refusal.Refusal.TheVariants as refusals
 use Rattle.wrt_commands.specs.declared.stop.Stop.{Stop}
@@ -23,9 +23,17 @@ module _ (asked : Opened) where
   task_answer task bytes is (Err stop) h =
       let P : Task → Type 0 = λ t. Stops (IsTaskOutcome asked.params t bytes) stop in task_stopped asked.params asked.task bytes stop (subst P (sym is) h)
 
-  -- a bracket whose input isn't read whole
+  -- a task about an input that isn't read whole
+  unread_task : (task : Task) → is_about_input task ≡ true → ((bytes : List ℕ) → 1048576 < length bytes → IsTaskOutcome asked.params task bytes (Err (refusals.TooLong past_limit)))
+      → (left : Option (List ℕ)) (of stop : Stop) → asked.task ≡ task → stop ≡ of → IsUnread left of → (bytes : List ℕ) × IsTold left bytes × IsStoppedAt (Ok asked) bytes stop
+  unread_task task about long left of stop is same h =
+      let P : List ℕ → Task → Type 0 = λ bytes t. IsTaskOutcome asked.params t bytes (Err (refusals.TooLong past_limit)) in
+      input_stopped (Ok asked) left of stop same h (ap is_about_input is ∙ about) (λ bytes over. subst (P bytes) (sym is) (long bytes over))
+
   pub bracket_stopped : (sweep : Sweep) (left : Option (List ℕ)) (of stop : Stop) → asked.task ≡ Bracket sweep → stop ≡ of → IsUnread left of
       → (bytes : List ℕ) × IsTold left bytes × IsStoppedAt (Ok asked) bytes stop
-  bracket_stopped sweep left of stop is same h =
-      let P : List ℕ → Task → Type 0 = λ bytes t. IsTaskOutcome asked.params t bytes (Err (refusals.TooLong past_limit)) in
-      input_stopped (Ok asked) left of stop same h (ap is_about_input is) (λ bytes long. subst (P bytes) (sym is) (inl (long, refl)))
+  bracket_stopped sweep = unread_task (Bracket sweep) refl (λ bytes long. inl (long, refl))
+
+  pub colored_stopped : (colours : List ℕ) (sweep : Sweep) (left : Option (List ℕ)) (of stop : Stop) → asked.task ≡ Colored colours sweep → stop ≡ of → IsUnread left of
+      → (bytes : List ℕ) × IsTold left bytes × IsStoppedAt (Ok asked) bytes stop
+  colored_stopped colours sweep = unread_task (Colored colours sweep) refl (λ bytes long. inl (long, refl))

@@ -15,6 +15,9 @@ pub mod Inputs
 pub mod ItemOrders
 pub mod DiagramReports
 pub mod BracketOutcomes
+pub mod ColourFits
+pub mod ColouredReports
+pub mod ColoredOutcomes
 pub mod TorusOutcomes
 pub mod Outcomes
 pub mod Runs

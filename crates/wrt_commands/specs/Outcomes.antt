@@ -1,6 +1,6 @@
 -- What a run comes to, by its words and the bytes of its input, in the one order of refusals: the words, the parameters, the
--- length, the text with its items and labels, the faces, the list of the order, the limits of the sums. The first refusal
--- stands; without one the report does. (This project's own; made of the definitions of the layers below.)
+-- length, the text with its items and labels, the faces, the colours, the list of the order, the inverses of the quantum numbers,
+-- the limits of the sums. The first refusal stands; without one the report does. (This project's own; made of the definitions of the layers below.)
 --
 --     Outcome                            a report, or a refusal
 --     IsTaskOutcome p task bytes outcome      what a task comes to at the parameters p, command by command
@@ -12,10 +12,11 @@
 use Rattle.std.specs.Prelude.{ℕ, List, Result, Ok, Err}
 use Rattle.root_quantum.specs.Parameters.{Parameters}
 use Rattle.wrt_request.specs.declared.request.Task.{Task}
-use Rattle.wrt_request.specs.declared.request.Task.TheVariants.{Bracket, Torus}
+use Rattle.wrt_request.specs.declared.request.Task.TheVariants.{Bracket, Colored, Torus}
 use Rattle.wrt_commands.specs.declared.opening.Opened.{Opened}
 use Rattle.wrt_commands.specs.declared.refusal.Refusal.{Refusal}
 use Rattle.wrt_commands.specs.BracketOutcomes.{IsBracketOutcome}
+use Rattle.wrt_commands.specs.ColoredOutcomes.{IsColoredOutcome}
 use Rattle.wrt_commands.specs.TorusOutcomes.{torus_outcome}
 use Rattle.wrt_commands.specs.Openings.{opening}
 use Rattle.wrt_commands.specs.Stops.{Is}
@@ -27,6 +28,7 @@ Outcome = Result (List ℕ) Refusal
 -- What a task comes to.
 abbrev pub IsTaskOutcome : Parameters → Task → List ℕ → Outcome → Type 0
 IsTaskOutcome p (Bracket sweep) bytes outcome = IsBracketOutcome p sweep bytes outcome
+IsTaskOutcome p (Colored colours sweep) bytes outcome = IsColoredOutcome p colours sweep bytes outcome
 IsTaskOutcome p (Torus crossings sweep) bytes outcome = Is (torus_outcome p crossings sweep) outcome
 
 -- What bytes come to, where the words come to an opening.

@@ -9,6 +9,14 @@ use std::fmt;
 /// Why an argument doesn't fit the diagram.
 #[derive(Clone, Copy, Debug, PartialEq, Eq)]
 pub enum ArgumentsRefusal {
+    /// So many colours are given, and as many are wanted as there are components.
+    ColourCount { given: usize, wanted: u32 },
+    /// The first colour of the list that is above the top colour.
+    ColourTooLarge { colour: u32, limit: u32 },
+    /// The first crossing at which an edge changes its colour changes that of this edge.
+    Unequal { edge: u32 },
+    /// The colours at this vertex aren't admissible: the first such vertex, numbered from 1.
+    NotAdmissible { vertex: u32 },
     /// The list of the order doesn't name each item that has places once, and nothing else; `items` of
     /// them have.
     Order { items: u32 },
@@ -28,6 +36,16 @@ impl fmt::Display for ArgumentsRefusal {
 
     fn fmt<W: fmt::Write>(&self, f: &mut fmt::Formatter<W>) -> fmt::Result {
         match self {
+            ArgumentsRefusal::ColourCount { given, wanted } => {
+                write!(f, "{given} colours given, {wanted} wanted")
+            }
+            ArgumentsRefusal::ColourTooLarge { colour, limit } => {
+                write!(f, "colour {colour} is above {limit}")
+            }
+            ArgumentsRefusal::Unequal { edge } => write!(f, "edge {edge} changes its colour"),
+            ArgumentsRefusal::NotAdmissible { vertex } => {
+                write!(f, "vertex {vertex} is not admissible")
+            }
             ArgumentsRefusal::Order { items } => {
                 write!(f, "order does not name each of {items} items once")
             }

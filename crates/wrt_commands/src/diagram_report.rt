@@ -17,7 +17,7 @@ use wrt_request::Sweep;
 use wrt_values::{Value, bracket_value};
 
 /// The diagram, planar, or how many faces it has.
-fn check_planar(alloc: Global, diagram: Diagram) -> Result<Planar, Stop>
+pub(crate) fn check_planar(alloc: Global, diagram: Diagram) -> Result<Planar, Stop>
     ensures { Answers (Is (planar diagram)) (λ plane. plane) result }
 {
     match check(alloc, diagram) {
@@ -45,7 +45,7 @@ fn turns_report(alloc: Global, value: Value) -> Result<String, AllocError>
 }
 
 /// The report of a value, with its turns where they are asked for.
-fn value_report(alloc: Global, value: Value, with_turns: bool) -> Result<String, AllocError>
+pub(crate) fn value_report(alloc: Global, value: Value, with_turns: bool) -> Result<String, AllocError>
     ensures { IfOk result (λ report. string_bytes report ≡ value_report with_turns value) }
 {
     if with_turns {

@@ -1,6 +1,6 @@
 //! Laws over the definitions alone: the facts that these functions ensure, which do nothing.
 
-ghost use Rattle.wrt_commands.specs.Laws.{OneResidue, OutcomesAreUnique, OutcomesExist, ReportsAreOfBrackets};
+ghost use Rattle.wrt_commands.specs.Laws.{OneResidue, OutcomesAreUnique, OutcomesExist, ReportsAreOfBrackets, ReportsAreOfColouredValues};
 
 /// The words and the bytes of the input come to at most one outcome: so what `run` says of an outcome says what the
 /// program prints.
@@ -17,6 +17,11 @@ pub fn outcomes_exist()
 /// The residue of a report is the bracket of the diagram, in whatever order its crossings are taken.
 pub fn reports_are_of_brackets()
     ensures { ReportsAreOfBrackets }
+{}
+
+/// The residue of a report of a diagram with colours is its value with these colours, in whatever order its crossings are taken.
+pub fn reports_are_of_coloured_values()
+    ensures { ReportsAreOfColouredValues }
 {}
 
 /// Two runs of one task, at the same parameters and bytes, that both end with a report, print the same residue, whatever

@@ -3,6 +3,9 @@
 
 mod arguments_refusal;
 mod bracket;
+mod colored;
+mod colour_fits;
+mod coloured_report;
 mod diagram_report;
 mod input;
 mod item_order;
@@ -15,6 +18,8 @@ mod refusal;
 mod status;
 mod stop;
 #[cfg(test)]
+mod colour_tests;
+#[cfg(test)]
 mod tests;
 mod text_refusal;
 mod too_long;
@@ -24,7 +29,10 @@ mod value_refusal;
 mod words_refusal;
 
 pub use arguments_refusal::ArgumentsRefusal;
-pub use laws::{one_residue, outcomes_are_unique, outcomes_exist, reports_are_of_brackets};
+pub use laws::{
+    one_residue, outcomes_are_unique, outcomes_exist, reports_are_of_brackets,
+    reports_are_of_coloured_values,
+};
 pub use parameters::read_parameters;
 pub use parameters_refusal::ParametersRefusal;
 pub use plane_refusal::PlaneRefusal;

@@ -14,6 +14,7 @@ ghost use Rattle.wrt_commands.specs.declared.stop.Stop.TheVariants as stops;
 ghost use Rattle.wrt_commands.specs.declared.words_refusal.WordsRefusal.TheVariants as words_refusals;
 
 use crate::bracket::bracket_report;
+use crate::colored::colored_report;
 use crate::input::read_input;
 use crate::opening::{Opened, open_words};
 use crate::status::Status;
@@ -39,6 +40,10 @@ fn task_report<S: Source>(alloc: Global, opened: &Opened, source: &mut S) -> Res
         Task::Bracket { sweep } => {
             let bytes = read_input(alloc, source)?;
             bracket_report(alloc, &opened.params, sweep, &bytes)
+        }
+        Task::Colored { colours, sweep } => {
+            let bytes = read_input(alloc, source)?;
+            colored_report(alloc, &opened.params, colours.members(), sweep, &bytes)
         }
         Task::Torus { crossings, sweep } => torus_report(alloc, &opened.params, *crossings, sweep),
     }

@@ -1,4 +1,4 @@
-//! The statuses of refused values: a limit, or (not yet) a quantity without an inverse.
+//! The statuses of refused values: a quantity without an inverse, or a limit.
 
 ghost use Rattle.std.specs.Prelude.{◌≡◌};
 ghost use Rattle.wrt_commands.specs.ValueRefusals.{status_of_value};
@@ -11,6 +11,7 @@ pub(crate) fn value_status(refusal: &ValueRefusal) -> Status
     ensures { result ≡ status_of_value refusal.now }
 {
     match refusal {
+        ValueRefusal::NoInverse { .. } => Status::NoInverse,
         ValueRefusal::Wide { .. } | ValueRefusal::Table { .. } => Status::Limit,
     }
 }

@@ -6,7 +6,7 @@ use Rattle.wrt_parts.specs.Texts.{Text, Texts}
 use Rattle.wrt_request.specs.declared.order.OrderWord.TheVariants.{Listed, Greedy, Given}
 use Rattle.wrt_request.specs.declared.option_name.OptionName.TheVariants.{Colors, Framing, Workers, Order}
 use Rattle.wrt_request.specs.declared.request.Numbers.{Numbers}
-use Rattle.wrt_request.specs.declared.request.Task.TheVariants.{Bracket, Torus}
+use Rattle.wrt_request.specs.declared.request.Task.TheVariants.{Bracket, Colored, Torus}
 use Rattle.wrt_request.specs.declared.fault.PartsRefusal.TheVariants as refusals
 use Rattle.wrt_request.specs.declared.fault.PartsRefusal.TheVariants.{UnknownCommand, Takes, Number, Crossings}
 use Rattle.wrt_request.proofs.OnLiterals.{request_on_literals}
@@ -132,6 +132,18 @@ in_an_order = refl
 in_the_empty_order : request_of (record (bare (codes "bracket") (codes "41 2 5")) { order = Some [] }) ≡ Ok (record { task = Bracket (record { order = (Given []); turns = false }); numbers = at_41 })
 unfolding request_on_literals
 in_the_empty_order = refl
+
+with_colours : request_of (record (bare (codes "colored") (codes "41 2 5")) { colors = Some (codes "2,0") }) ≡ Ok (record { task = Colored (2 ∷ 0 ∷ []) (record { order = Listed; turns = false }); numbers = at_41 })
+unfolding request_on_literals
+with_colours = refl
+
+without_colours : request_of (bare (codes "colored") (codes "41 2 5")) ≡ Ok (record { task = Colored [] (record { order = Listed; turns = false }); numbers = at_41 })
+unfolding request_on_literals
+without_colours = refl
+
+colours_before_the_order : request_of (record (bare (codes "colored") (codes "41 2 5")) { colors = Some (codes "1,,2"); order = Some (codes "x") }) ≡ Err (refusals.List Colors)
+unfolding request_on_literals
+colours_before_the_order = refl
 
 most_crossings : request_of (bare (codes "torus") (codes "256 41 2 5")) ≡ Ok (record { task = Torus 256 (record { order = Listed; turns = false }); numbers = at_41 })
 unfolding request_on_literals

@@ -4,11 +4,11 @@ use Rattle.std.proofs.Common.{◌≡◌, ◌+◌, ℕ, List, Result, Ok, Err, re
 use Rattle.wrt_parts.specs.Texts.{Texts}
 use Rattle.wrt_request.specs.Commands.{command_of, row_of, check_options}
 use Rattle.wrt_request.specs.Numbers.{numbers_of}
-use Rattle.wrt_request.specs.Requests.{request_of, rest_of, shared_numbers, sweep_of, task_of}
+use Rattle.wrt_request.specs.Requests.{request_of, rest_of, shared_numbers, arguments_of, task_of}
 use Rattle.wrt_request.specs.Stages.{after, Fails}
 use Rattle.wrt_request.specs.declared.command.Command.{Command}
 use Rattle.wrt_request.specs.declared.request.Request.{Request}
-use Rattle.wrt_request.specs.declared.request.Sweep.{Sweep}
+use Rattle.wrt_request.specs.declared.request.Arguments.{Arguments}
 use Rattle.wrt_request.specs.declared.request.Task.{Task}
 use Rattle.wrt_request.specs.declared.fault.PartsRefusal.{PartsRefusal}
 use Rattle.wrt_request.specs.declared.fault.PartsFault.{PartsFault}
@@ -31,26 +31,26 @@ module _ (command : Command) (numbers : List ℕ) (texts : Texts) where
   abbrev pub with_task : Task → Result Request PartsRefusal
   with_task task = Ok (record { task = task; numbers = shared_numbers (row_of command).own_numbers numbers })
 
-  abbrev pub with_sweep : Sweep → Result Request PartsRefusal
-  with_sweep sweep = after (task_of command numbers sweep) with_task
+  abbrev pub with_arguments : Arguments → Result Request PartsRefusal
+  with_arguments arguments = after (task_of command numbers arguments) with_task
 
   abbrev pub with_options : Unit {0} → Result Request PartsRefusal
-  with_options _ = after (sweep_of texts) with_sweep
+  with_options _ = after (arguments_of texts) with_arguments
 
   pub rest-options : rest_of command numbers texts ≡ after (check_options command texts) with_options
   unfolding rest_of
   rest-options = refl
 
-  pub rest-sweep : Ok tt ≡ check_options command texts → rest_of command numbers texts ≡ after (sweep_of texts) with_sweep
+  pub rest-arguments : Ok tt ≡ check_options command texts → rest_of command numbers texts ≡ after (arguments_of texts) with_arguments
   unfolding rest_of
-  rest-sweep options = rw (← options) refl
+  rest-arguments options = rw (← options) refl
 
-  pub rest-task : (sweep : Sweep) → Ok tt ≡ check_options command texts → sweep_of texts ≡ Ok sweep → rest_of command numbers texts ≡ after (task_of command numbers sweep) with_task
-  rest-task sweep options is = rest-sweep options ∙ ap (λ part. after part with_sweep) is
+  pub rest-task : (arguments : Arguments) → Ok tt ≡ check_options command texts → arguments_of texts ≡ Ok arguments → rest_of command numbers texts ≡ after (task_of command numbers arguments) with_task
+  rest-task arguments options is = rest-arguments options ∙ ap (λ part. after part with_arguments) is
 
-  pub rest-all : (sweep : Sweep) (task : Task) → Ok tt ≡ check_options command texts → sweep_of texts ≡ Ok sweep → Ok task ≡ task_of command numbers sweep
+  pub rest-all : (arguments : Arguments) (task : Task) → Ok tt ≡ check_options command texts → arguments_of texts ≡ Ok arguments → Ok task ≡ task_of command numbers arguments
       → rest_of command numbers texts ≡ with_task task
-  rest-all sweep task options is asked = rest-task sweep options is ∙ ap (λ part. after part with_task) (sym asked)
+  rest-all arguments task options is asked = rest-task arguments options is ∙ ap (λ part. after part with_task) (sym asked)
 
 module _ (texts : Texts) where
   abbrev pub with_numbers : Command → List ℕ → Result Request PartsRefusal

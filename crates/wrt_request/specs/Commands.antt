@@ -7,13 +7,14 @@
 --     check_options command texts      all options that are given belong to the command, or the refusal of the first that
 --                                      doesn't
 --
--- `bracket` takes M, A and R, and `torus` N before them; `--order` and `--turns` belong to both.
+-- `bracket` and `colored` take M, A and R, and `torus` N before them; `--order` and `--turns` belong to all, and `--colors` to
+-- `colored`.
 use Rattle.std.specs.Prelude.{◌&&◌, ℕ, Bool, true, false, not, List, [], ◌∷◌, Option, Some, None, Result, Ok, Err, codes, find}
 use Rattle.std.specs.Str.{bytes_eq}
 use Rattle.wrt_parts.specs.Texts.{Text, Texts}
 use Rattle.wrt_request.specs.Options.{is_given}
 use Rattle.wrt_request.specs.declared.command.Command.{Command}
-use Rattle.wrt_request.specs.declared.command.Command.TheVariants.{Bracket, Torus}
+use Rattle.wrt_request.specs.declared.command.Command.TheVariants.{Bracket, Colored, Torus}
 use Rattle.wrt_request.specs.declared.command.Options.{Options}
 use Rattle.wrt_request.specs.declared.option_name.OptionName.{OptionName}
 use Rattle.wrt_request.specs.declared.option_name.OptionName.TheVariants.{Colors, Framing, Workers, Order, Turns}
@@ -30,14 +31,19 @@ pub record CommandRow : Type 0 where
 abbrev pub order_and_turns : Options
 order_and_turns = record { colors = false; framing = false; workers = false; order = true; turns = true }
 
+-- `--colors`, `--order` and `--turns`.
+abbrev pub colors_and_order : Options
+colors_and_order = record order_and_turns { colors = true }
+
 -- The table.
 abbrev pub row_of : Command → CommandRow
 row_of Bracket = record { name = codes "bracket"; own_numbers = 0; options = order_and_turns }
+row_of Colored = record { name = codes "colored"; own_numbers = 0; options = colors_and_order }
 row_of Torus = record { name = codes "torus"; own_numbers = 1; options = order_and_turns }
 
 -- All commands.
 abbrev pub all_commands : List Command
-all_commands = Bracket ∷ Torus ∷ []
+all_commands = Bracket ∷ Colored ∷ Torus ∷ []
 
 -- The command that was found, or the refusal where there is none.
 abbrev pub known_command : Option Command → Result Command PartsRefusal

@@ -4,6 +4,7 @@ pub mod Options
 pub mod Commands
 pub mod Stages
 pub mod Numbers
+pub mod Colours
 pub mod Orders
 pub mod Requests
 pub mod Laws

@@ -1,9 +1,10 @@
 -- What the parts of a command line ask for, or the first reason against them. (This project's own.)
 --
---     task_of command numbers sweep     what the command asks for with its own numbers and the options of a sweep
+--     task_of command numbers arguments  what the command asks for with its own numbers and the values of its options
 --     IsInRange task                    the crossings of the task are 1 to 256
 --     shared_numbers own numbers        M, A and R, behind so many numbers of the command's own
 --     sweep_of texts                    the options of a sweep: its order, and whether its turns are reported
+--     arguments_of texts                the values of the options: the colours, and the options of a sweep
 --     rest_of command numbers texts     the request of a command with its numbers, by the options
 --     request_of texts                  the request of the parts
 --
@@ -12,28 +13,32 @@
 use Rattle.std.specs.Prelude.{◌&&◌, ◌+◌, ◌≤◌, ℕ, List, Result, Ok, Err, if◌then◌else◌, nat_lt, slice_index}
 use Rattle.wrt_parts.specs.Texts.{Texts}
 use Rattle.wrt_request.specs.Commands.{command_of, row_of, check_options}
+use Rattle.wrt_request.specs.Colours.{colours_of}
 use Rattle.wrt_request.specs.Numbers.{numbers_of}
 use Rattle.wrt_request.specs.Orders.{order_of}
 use Rattle.wrt_request.specs.Stages.{after}
 use Rattle.wrt_request.specs.declared.command.Command.{Command}
 use Rattle.wrt_request.specs.declared.command.Command.TheVariants as commands
+use Rattle.wrt_request.specs.declared.request.Arguments.{Arguments}
 use Rattle.wrt_request.specs.declared.request.Numbers.{Numbers}
 use Rattle.wrt_request.specs.declared.request.Request.{Request}
 use Rattle.wrt_request.specs.declared.request.Sweep.{Sweep}
 use Rattle.wrt_request.specs.declared.request.Task.{Task}
-use Rattle.wrt_request.specs.declared.request.Task.TheVariants.{Bracket, Torus}
+use Rattle.wrt_request.specs.declared.request.Task.TheVariants.{Bracket, Colored, Torus}
 use Rattle.wrt_request.specs.declared.fault.PartsRefusal.{PartsRefusal}
 use Rattle.wrt_request.specs.declared.fault.PartsRefusal.TheVariants.{Crossings}
 
 -- What the command asks for: the crossings of `torus` are 1 to 256.
-abbrev pub task_of : Command → List ℕ → Sweep → Result Task PartsRefusal
-task_of commands.Bracket numbers sweep = Ok (Bracket sweep)
-task_of commands.Torus numbers sweep =
-    if nat_lt 0 (slice_index numbers 0) && nat_lt (slice_index numbers 0) 257 then Ok (Torus (slice_index numbers 0) sweep) else Err Crossings
+abbrev pub task_of : Command → List ℕ → Arguments → Result Task PartsRefusal
+task_of commands.Bracket numbers arguments = Ok (Bracket arguments.sweep)
+task_of commands.Colored numbers arguments = Ok (Colored arguments.colours arguments.sweep)
+task_of commands.Torus numbers arguments =
+    if nat_lt 0 (slice_index numbers 0) && nat_lt (slice_index numbers 0) 257 then Ok (Torus (slice_index numbers 0) arguments.sweep) else Err Crossings
 
 -- The crossings of the task are 1 to 256.
 abbrev pub IsInRange : Task → Type 0
 IsInRange (Bracket sweep) = Unit {0}
+IsInRange (Colored colours sweep) = Unit {0}
 IsInRange (Torus crossings sweep) = (1 ≤ crossings) × (crossings ≤ 256)
 
 -- M, A and R, behind so many numbers of the command's own.
@@ -45,11 +50,16 @@ shared_numbers own numbers =
 abbrev pub sweep_of : Texts → Result Sweep PartsRefusal
 sweep_of texts = after (order_of texts.order) (λ order. Ok (record { order = order; turns = texts.turns }))
 
+-- The values of the options, in the one order in which they are read.
+abbrev pub arguments_of : Texts → Result Arguments PartsRefusal
+arguments_of texts =
+    after (colours_of texts.colors) (λ colours. after (sweep_of texts) (λ sweep. Ok (record { colours = colours; sweep = sweep })))
+
 -- The request of a command with its numbers: the options belong to it, their values are read in one order for all commands, and
 -- the command's own numbers are looked at last.
 unfoldable pub rest_of : Command → List ℕ → Texts → Result Request PartsRefusal
 rest_of command numbers texts =
-    after (check_options command texts) (λ _. after (sweep_of texts) (λ sweep. after (task_of command numbers sweep) (λ task.
+    after (check_options command texts) (λ _. after (arguments_of texts) (λ arguments. after (task_of command numbers arguments) (λ task.
     Ok (record { task = task; numbers = shared_numbers (row_of command).own_numbers numbers }))))
 
 -- The request of the parts: the command is one, its numbers are as many as it takes, and the rest holds.

@@ -13,6 +13,8 @@ use wrt_parts::Parts;
 pub(crate) enum Command {
     /// `bracket M A R`
     Bracket,
+    /// `colored M A R`
+    Colored,
     /// `torus N M A R`
     Torus,
 }
@@ -47,9 +49,15 @@ const ORDER_AND_TURNS: Options = Options {
     turns: true,
 };
 
+/// `--colors`, `--order` and `--turns`.
+const COLORS_AND_ORDER: Options = Options {
+    colors: true,
+    ..ORDER_AND_TURNS
+};
+
 impl Command {
     /// All commands.
-    const ALL: [Command; 2] = [Command::Bracket, Command::Torus];
+    const ALL: [Command; 3] = [Command::Bracket, Command::Colored, Command::Torus];
 
     /// The command's row of the table.
     fn row(self) -> Row
@@ -62,6 +70,11 @@ impl Command {
                 name: "bracket",
                 own_numbers: 0,
                 options: ORDER_AND_TURNS,
+            },
+            Command::Colored => Row {
+                name: "colored",
+                own_numbers: 0,
+                options: COLORS_AND_ORDER,
             },
             Command::Torus => Row {
                 name: "torus",

@@ -2,6 +2,7 @@
 //! refusals.
 #![tactic(auto)]
 
+mod colours;
 mod command;
 mod fault;
 mod laws;

@@ -3,11 +3,13 @@
 ghost use Rattle.std.specs.Prelude.{◌≡◌, ◌+◌, length, IfOk};
 ghost use Rattle.wrt_parts.specs.Texts.{texts_of};
 ghost use Rattle.wrt_request.specs.Commands.{row_of};
-ghost use Rattle.wrt_request.specs.Requests.{IsInRange, request_of, rest_of, shared_numbers, sweep_of, task_of};
+ghost use Rattle.wrt_request.specs.Requests.{IsInRange, arguments_of, request_of, rest_of, shared_numbers, sweep_of, task_of};
 ghost use Rattle.wrt_request.specs.Stages.{Reads};
 
+use crate::colours::read_colours;
 use crate::command::Command;
 use crate::fault::{PartsFault, PartsRefusal};
+use crate::list::NumberList;
 use crate::number::read_numbers;
 use crate::order::{OrderWord, read_order};
 use std::alloc::Global;
@@ -33,11 +35,23 @@ pub struct Sweep {
     pub turns: bool,
 }
 
+/// The values of the options. Those that aren't given have their values for that.
+#[derive(Drop)]
+pub(crate) struct Arguments {
+    /// The colours.
+    pub(crate) colours: NumberList,
+    /// The options of a sweep.
+    pub(crate) sweep: Sweep,
+}
+
 /// What is asked for at M, A and R, with its own arguments.
 #[derive(Drop, Debug)]
 pub enum Task {
     /// `bracket M A R`: the bracket of the diagram on the input.
     Bracket { sweep: Sweep },
+    /// `colored M A R`: the value of the diagram on the input, whose components have these colours. That they fit it
+    /// isn't known yet.
+    Colored { colours: NumberList, sweep: Sweep },
     /// `torus N M A R`: the bracket of the closed braid on two strands with N positive crossings, 1 to 256.
     Torus { crossings: u32, sweep: Sweep },
 }
@@ -62,14 +76,29 @@ fn read_sweep(alloc: Global, parts: &Parts) -> Result<Sweep, PartsFault>
     })
 }
 
+/// The values of the options, in the one order in which they are read.
+fn read_arguments(alloc: Global, parts: &Parts) -> Result<Arguments, PartsFault>
+    ensures { Reads (λ arguments. arguments) (arguments_of (texts_of parts.now)) result }
+{
+    let colours = read_colours(alloc, parts.colors)?;
+    let sweep = read_sweep(alloc, parts)?;
+    Ok(Arguments { colours, sweep })
+}
+
 /// What the command asks for with its own numbers and the values of its options.
-fn read_task(command: Command, numbers: &[u64], sweep: Sweep) -> Result<Task, PartsRefusal>
+fn read_task(
+    command: Command,
+    numbers: &[u64],
+    arguments: Arguments,
+) -> Result<Task, PartsRefusal>
     requires { length numbers.now ≡ (row_of command).own_numbers + 3 }
-    ensures value { result ≡ task_of command numbers.now sweep }
+    ensures value { result ≡ task_of command numbers.now arguments }
     ensures in_range { IfOk result (λ task. IsInRange task) }
 {
+    let Arguments { colours, sweep } = arguments;
     match command {
         Command::Bracket => Ok(Task::Bracket { sweep }),
+        Command::Colored => Ok(Task::Colored { colours, sweep }),
         Command::Torus => match numbers[0] {
             crossings @ 1..=256 => Ok(Task::Torus {
                 crossings: crossings as u32,
@@ -106,8 +135,8 @@ fn read_rest(
     ensures in_range { IfOk result (λ request. IsInRange request.task) }
 {
     command.check_options(parts)?;
-    let sweep = read_sweep(alloc, parts)?;
-    let task = read_task(command, numbers, sweep)?;
+    let arguments = read_arguments(alloc, parts)?;
+    let task = read_task(command, numbers, arguments)?;
     Ok(Request {
         task,
         numbers: shared_numbers(command, numbers),

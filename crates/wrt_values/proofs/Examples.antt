@@ -8,14 +8,21 @@ use Rattle.state_sums.specs.Networks.{Node}
 use Rattle.state_sums.specs.StateSums.{value}
 use Rattle.root_quantum.specs.Parameters.{Parameters}
 use Rattle.root_quantum.specs.Refusals.{refusal}
-use Rattle.root_quantum.specs.QuantumNumbers.{inverse_root, loop_value}
+use Rattle.root_quantum.specs.QuantumNumbers.{inverse_root, loop_value, quantum_number, delta}
+use Rattle.graph_parts.specs.LeastNames.{least_name}
+use Rattle.planar_check.specs.Components.{component_least, least_labels}
+use Rattle.strand_algebra.specs.Projectors.{projector, inverse_of, found_projector}
+use Rattle.coloured_values.specs.Coloured.{coloured}
+use Rattle.inertia_laws.specs.Fractions.{gcd}
 use Rattle.root_quantum.proofs.RefusalProofs.{accepted_law}
 use Rattle.root_quantum.specs.declared.form.Form.TheVariants.{All}
 use Rattle.pd_reader.specs.declared.item.Item.{Item}
 use Rattle.pd_reader.specs.declared.item.Item.TheVariants.{X, Loop}
 use Rattle.diagram_brackets.specs.Brackets.{bracket}
 use Rattle.frontier_laws.specs.Orders.{listed_of, greedy_of, given_of}
-use Rattle.wrt_values.specs.declared.fault.ValueRefusal.TheVariants.{Wide}
+use Rattle.wrt_values.specs.declared.fault.ValueRefusal.TheVariants.{NoInverse, Wide}
+use Rattle.wrt_values.specs.Coloured.{coloured_value}
+use Rattle.wrt_values.specs.Inverses.{inverses}
 use Rattle.wrt_values.specs.Values.{value_of, bracket_value}
 
 no_refusal : refusal All 41 2 5 ≡ None
@@ -53,3 +60,24 @@ broad = record { group = 1; ends = range_with_len 1 26; terms = [] }
 wide : value_of 7 (broad ∷ broad ∷ []) 3 ≡ Err (Wide record { colouring = 3; step = 1 } 26)
 unfolding part
 wide = refl
+
+-- ---- colours
+-- the unknot of colour 2, whose box has two terms
+unknot_two : coloured_value listed_of worked (Loop 1 ∷ []) (2 ∷ []) ≡ Ok (record { residue = 35; turns = 2 })
+unfolding gcd delta coloured value part_count part worked loop_value inverse_root power residue found_projector projector quantum_number inverse_of least_labels component_least least_name
+unknot_two = refl
+
+-- at 119, 2, 6 no colour past 1 has a projector: Delta_1 is 17 * 6
+no_refusal_119 : refusal All 119 2 6 ≡ None
+unfolding refusal order_up_to power residue
+no_refusal_119 = refl
+
+at_119 : Parameters
+at_119 = record { modulus = 119; root = 2; level = 6; form = All; meets = (accepted_law All 119 2 6).1 no_refusal_119 }
+
+missing : inverses at_119 2 ≡ Err (NoInverse 1 17)
+unfolding at_119 gcd delta loop_value inverse_root power residue quantum_number
+missing = refl
+
+none_missing : inverses at_119 1 ≡ Ok tt
+none_missing = refl

@@ -1,2 +1,3 @@
+pub mod MissingInverses
 pub mod OneResidue
 mod Examples

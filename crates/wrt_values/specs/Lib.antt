@@ -1,2 +1,4 @@
 pub mod Refusals
+pub mod Inverses
 pub mod Values
+pub mod Coloured

@@ -1,11 +1,17 @@
 -- The lines of refused values. (This project's own.)
 --
+--     text_of_inverse index common   a quantum number that shares a factor with the modulus
 --     text_of_step step          the step of a sweep, as a line names it
 --     text_of_refusal refusal    the line of the refusal
 use Rattle.std.specs.Prelude.{ℕ, List, ◌++◌, codes, decimal}
 use Rattle.wrt_values.specs.declared.fault.SweepStep.{SweepStep}
 use Rattle.wrt_values.specs.declared.fault.ValueRefusal.{ValueRefusal}
-use Rattle.wrt_values.specs.declared.fault.ValueRefusal.TheVariants.{Wide, Table}
+use Rattle.wrt_values.specs.declared.fault.ValueRefusal.TheVariants.{NoInverse, Wide, Table}
+
+-- A quantum number that shares a factor with the modulus.
+unfoldable pub text_of_inverse : ℕ → ℕ → List ℕ
+text_of_inverse index common =
+    codes "Delta " ++ (decimal index ++ (codes " has the common factor " ++ (decimal common ++ codes " with the modulus")))
 
 -- The step of a sweep.
 abbrev pub text_of_step : SweepStep → List ℕ
@@ -13,5 +19,6 @@ text_of_step step = codes "colouring " ++ decimal step.colouring ++ codes ": ste
 
 -- The line of the refusal.
 abbrev pub text_of_refusal : ValueRefusal → List ℕ
+text_of_refusal (NoInverse index common) = text_of_inverse index common
 text_of_refusal (Wide step ends) = text_of_step step ++ codes " has " ++ decimal ends ++ codes " open ends"
 text_of_refusal (Table step) = text_of_step step ++ codes " has more than 262144 pairings"

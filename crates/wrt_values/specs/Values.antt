@@ -47,7 +47,7 @@ abbrev pub bracket_value : (View → ℕ) → Parameters → List Item → Resul
 bracket_value next p items = value_of (bracket p items) (nodes_by next (bracket_network p items)) 1
 
 -- The definition's refusal, or want of memory.
-abbrev pub Fails : Result Value ValueRefusal → ValueFault → Type 0
+abbrev pub Fails : {A : Type 0} → Result A ValueRefusal → ValueFault → Type 0
 Fails defined (Refused refusal) = defined ≡ Err refusal
 Fails defined Memory = Unit {0}
 

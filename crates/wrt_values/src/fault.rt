@@ -25,9 +25,12 @@ impl fmt::Display for SweepStep {
     }
 }
 
-/// Why a diagram has no value: the first limit that its sums meet.
+/// Why a diagram has no value: a projector is wanting, or else the first limit that its sums meet.
 #[derive(Clone, Copy, Debug, PartialEq, Eq)]
 pub enum ValueRefusal {
+    /// There is no projector of the greatest colour: `Delta_index` is the first that shares a factor with the modulus, and
+    /// the greatest one is `common`.
+    NoInverse { index: u32, common: u64 },
     /// So many names are open behind that step of the sweep: more than 24.
     Wide { step: SweepStep, ends: u32 },
     /// There are more than 262,144 pairings of the open names behind that step of the sweep.
@@ -39,6 +42,9 @@ impl fmt::Display for ValueRefusal {
 
     fn fmt<W: fmt::Write>(&self, f: &mut fmt::Formatter<W>) -> fmt::Result {
         match self {
+            ValueRefusal::NoInverse { index, common } => {
+                write!(f, "Delta {index} has the common factor {common} with the modulus")
+            }
             ValueRefusal::Wide { step, ends } => write!(f, "{step} has {ends} open ends"),
             ValueRefusal::Table { step } => write!(f, "{step} has more than 262144 pairings"),
         }
@@ -48,7 +54,7 @@ impl fmt::Display for ValueRefusal {
 /// Why there is no value: it is refused, or memory ran out.
 #[derive(Clone, Copy, Debug, PartialEq, Eq)]
 pub enum ValueFault {
-    /// The sums meet this limit.
+    /// It is refused for this reason.
     Refused(ValueRefusal),
     /// Memory ran out.
     Memory,

@@ -1,0 +1,114 @@
+-- A task is never refused as words are: each of its steps is refused by a later family.
+use Rattle.std.proofs.Common.{String, Global, ◌≡◌, ◌∙◌, inl, inr, ℕ, Bool, cond, true, false, List, Option, Some, None, Result, Ok, Err, refl, sym, ap, subst}
+use Rattle.std.specs.Prelude.{MatchResult}
+use Rattle.root_quantum.specs.Parameters.{Parameters}
+use Rattle.pd_reader.specs.declared.item.Item.{Item}
+use Rattle.pd_reader.specs.Refusals.{IsPdReading}
+use Rattle.pd_reader.specs.Torus.{torus_items}
+use Rattle.frontier_laws.specs.Orders.{View}
+use Rattle.skein_network.specs.declared.fault.CableFault.{CableFault}
+use Rattle.skein_network.specs.declared.fault.CableFault.TheVariants as faults
+use Rattle.wrt_values.specs.Coloured.{coloured_value}
+use Rattle.wrt_values.specs.Values.{bracket_value}
+use Rattle.wrt_values.specs.declared.fault.ValueRefusal.{ValueRefusal}
+use Rattle.wrt_values.specs.declared.value.Value.{Value}
+use Rattle.wrt_request.specs.Stages.{after}
+use Rattle.wrt_request.specs.declared.request.Sweep.{Sweep}
+use Rattle.wrt_request.specs.declared.request.Task.{Task}
+use Rattle.wrt_request.specs.declared.request.Task.TheVariants.{Bracket, Colored, Torus}
+use Rattle.wrt_commands.specs.declared.opening.Opened.{Opened}
+use Rattle.wrt_commands.specs.declared.refusal.Refusal.{Refusal}
+use Rattle.wrt_commands.specs.declared.refusal.Refusal.TheVariants.{Words, Value as ValueRefused}
+use Rattle.wrt_commands.specs.declared.stop.Stop.{Stop}
+use Rattle.wrt_commands.specs.declared.stop.Stop.TheVariants.{Refused}
+use Rattle.wrt_commands.specs.declared.text_refusal.Counted.TheVariants.{Items}
+use Rattle.wrt_commands.specs.declared.text_refusal.TextRefusal.{TextRefusal}
+use Rattle.wrt_commands.specs.declared.words_refusal.WordsRefusal.{WordsRefusal}
+use Rattle.wrt_commands.specs.ColourFits.{fits, fit_components}
+use Rattle.wrt_commands.specs.ColouredReports.{fitted_report, coloured_report}
+use Rattle.wrt_commands.specs.DiagramReports.{planar, item_order, diagram_report}
+use Rattle.wrt_commands.specs.Inputs.{IsInputOutcome, IsTextOutcome, IsPdOutcome}
+use Rattle.wrt_commands.specs.Outcomes.{Outcome, IsTaskOutcome}
+use Rattle.wrt_commands.specs.Runs.{IsStoppedAt}
+use Rattle.wrt_commands.specs.Stops.{refused_as}
+use Rattle.wrt_commands.specs.TextRefusals.{refusal_of_text}
+use Rattle.wrt_commands.specs.TorusOutcomes.{torus_outcome}
+use Rattle.wrt_commands.proofs.DiagramLemmas.{with_value, with_order, with_plane}
+
+-- the outcome isn't refused as words are
+abbrev IsNoWords : {A : Type 0} → Result A Refusal → Type 0
+IsNoWords outcome = (words : WordsRefusal) → outcome ≡ Err (Words words) → ⊥
+
+-- ---- steps
+behind : {A B : Type 0} (first : Result A Refusal) (next : A → Result B Refusal) → IsNoWords first → ((value : A) → IsNoWords (next value)) → IsNoWords (after first next)
+behind (Ok value) next h k = k value
+behind (Err refusal) next h k = λ words e. let same : refusal ≡ Words words = cc in h words (ap Err same)
+
+tested : {A : Type 0} (passes : Bool) (value : A) (refusal : Refusal) → ((words : WordsRefusal) → refusal ≡ Words words → ⊥) → IsNoWords (cond passes (Ok value) (Err refusal))
+tested true value refusal h = λ words e. absurd (cc)
+tested false value refusal h = λ words e. let same : refusal ≡ Words words = cc in h words same
+
+valued : (found : Result Value ValueRefusal) → IsNoWords (refused_as ValueRefused found)
+valued (Ok value) = λ words e. absurd (cc)
+valued (Err refusal) = λ words e. absurd (cc)
+
+fitted : (fault : Option CableFault) → IsNoWords (fits fault)
+fitted None = λ words e. absurd (cc)
+fitted (Some (faults.ColourCount given wanted)) = λ words e. absurd (cc)
+fitted (Some (faults.ColourTooLarge colour limit)) = λ words e. absurd (cc)
+fitted (Some (faults.Unequal edge)) = λ words e. absurd (cc)
+fitted (Some (faults.NotAdmissible vertex)) = λ words e. absurd (cc)
+fitted (Some (faults.NoInverse index common)) = λ words e. absurd (cc)
+fitted (Some faults.Memory) = λ words e. absurd (cc)
+
+reported : {A : Type 0} (report : A) → IsNoWords (Ok report)
+reported report = λ words e. absurd (cc)
+
+-- ---- reports
+plane_no_words : (items : List Item) → IsNoWords (planar items)
+plane_no_words items = tested _ items _ (λ words e. absurd (cc))
+
+module _ (p : Parameters) (sweep : Sweep) where
+  order_no_words : (items : List Item) → IsNoWords (item_order sweep.order items)
+  order_no_words items = tested _ _ _ (λ words e. absurd (cc))
+
+  diagram_no_words : (items : List Item) → IsNoWords (diagram_report p sweep items)
+  diagram_no_words items =
+      behind (planar items) (with_plane p sweep) (plane_no_words items) (λ flat. behind (item_order sweep.order flat) (with_order p sweep flat) (order_no_words flat)
+      (λ next. behind (refused_as ValueRefused (bracket_value next p flat)) (with_value sweep) (valued (bracket_value next p flat)) (λ value. reported _)))
+
+  fitted_no_words : (colours : List ℕ) (items : List Item) → IsNoWords (fitted_report p sweep colours items)
+  fitted_no_words colours items =
+      behind (item_order sweep.order items) (λ next. after (refused_as ValueRefused (coloured_value next p items colours)) (with_value sweep)) (order_no_words items)
+      (λ next. behind (refused_as ValueRefused (coloured_value next p items colours)) (with_value sweep) (valued (coloured_value next p items colours)) (λ value. reported _))
+
+  coloured_no_words : (colours : List ℕ) (items : List Item) → IsNoWords (coloured_report p sweep colours items)
+  coloured_no_words colours items =
+      behind (planar items) (λ flat. after (fit_components p flat colours) (λ _. fitted_report p sweep colours flat)) (plane_no_words items)
+      (λ flat. behind (fit_components p flat colours) (λ _. fitted_report p sweep colours flat) (fitted _) (λ _. fitted_no_words colours flat))
+
+-- ---- inputs
+text_no_words : {A F : Type 0} (reading : List ℕ → Result A F → Type 0) (refusal_of : F → Option TextRefusal) (bytes : List ℕ) (read : Result A Refusal)
+    → IsTextOutcome reading refusal_of bytes read → IsNoWords read
+text_no_words reading refusal_of bytes (Ok value) h = λ words e. absurd (cc)
+text_no_words reading refusal_of bytes (Err refusal) h = λ words e. let told = h.4 in absurd (cc)
+
+input_no_words : {A B : Type 0} (is_text : List ℕ → Result A Refusal → Type 0) (next : A → Result B Refusal) (bytes : List ℕ) (outcome : Result B Refusal)
+    → ((read : Result A Refusal) → is_text bytes read → IsNoWords read) → ((value : A) → IsNoWords (next value)) → IsInputOutcome is_text next bytes outcome → IsNoWords outcome
+input_no_words is_text next bytes outcome texts values (inl long) = λ words e. let told = long.1 in absurd (cc)
+input_no_words is_text next bytes outcome texts values (inr read) = λ words e. behind read.1.0 next (texts read.1.0 read.1.1) values words (sym read.1.2 ∙ e)
+
+pd_no_words : (bytes : List ℕ) (read : Result (List Item) Refusal) → IsPdOutcome bytes read → IsNoWords read
+pd_no_words bytes read h = text_no_words IsPdReading (refusal_of_text Items) bytes read h
+
+task_no_words : (p : Parameters) (task : Task) (bytes : List ℕ) (outcome : Outcome) → IsTaskOutcome p task bytes outcome → IsNoWords outcome
+task_no_words p (Bracket sweep) bytes outcome h = input_no_words IsPdOutcome (diagram_report p sweep) bytes outcome (pd_no_words bytes) (diagram_no_words p sweep) h
+task_no_words p (Colored colours sweep) bytes outcome h = input_no_words IsPdOutcome (coloured_report p sweep colours) bytes outcome (pd_no_words bytes) (coloured_no_words p sweep colours) h
+task_no_words p (Torus crossings sweep) bytes outcome h = λ words e. diagram_no_words p sweep (torus_items crossings) words (h ∙ e)
+
+-- NO TASK STOPS FOR ITS WORDS
+pub no_words_stop : (asked : Opened) (bytes : List ℕ) (result : Result (String Global) Stop) (R : String Global → Type 0) → MatchResult result R (IsStoppedAt (Ok asked) bytes) → (words : WordsRefusal)
+    → result ≡ Err (Refused (Words words)) → ⊥
+no_words_stop asked bytes result R h words e =
+    let T : Result (String Global) Stop → Type 0 = λ r. MatchResult r R (IsStoppedAt (Ok asked) bytes) in
+    task_no_words asked.params asked.task bytes (Err (Words words)) (subst T e h) words refl
