@@ -41,11 +41,7 @@ impl From<CableFault> for Stop {
 }
 
 /// Whether the list has a colour for each component of the diagram, none above the top colour.
-pub(crate) fn fit_components(
-    params: &Params,
-    diagram: &Planar,
-    colours: &[u32],
-) -> Result<(), Stop>
+pub(crate) fn fit_components(params: &Params, diagram: &Planar, colours: &[u32]) -> Result<(), Stop>
     ensures answer { Answers (Is (fit_components params.now diagram.now colours.now)) (λ fit. fit) result }
     ensures fits { OnOk result (colour_refusal (top_colour params.now) (length (least_labels diagram.now)) colours.now ≡ None) }
 {

@@ -45,7 +45,11 @@ fn turns_report(alloc: Global, value: Value) -> Result<String, AllocError>
 }
 
 /// The report of a value, with its turns where they are asked for.
-pub(crate) fn value_report(alloc: Global, value: Value, with_turns: bool) -> Result<String, AllocError>
+pub(crate) fn value_report(
+    alloc: Global,
+    value: Value,
+    with_turns: bool,
+) -> Result<String, AllocError>
     ensures { IfOk result (λ report. string_bytes report ≡ value_report with_turns value) }
 {
     if with_turns {

@@ -5,6 +5,8 @@ mod arguments_refusal;
 mod bracket;
 mod colored;
 mod colour_fits;
+#[cfg(test)]
+mod colour_tests;
 mod coloured_report;
 mod diagram_report;
 mod input;
@@ -17,8 +19,6 @@ mod plane_refusal;
 mod refusal;
 mod status;
 mod stop;
-#[cfg(test)]
-mod colour_tests;
 #[cfg(test)]
 mod tests;
 mod text_refusal;

@@ -86,11 +86,7 @@ fn read_arguments(alloc: Global, parts: &Parts) -> Result<Arguments, PartsFault>
 }
 
 /// What the command asks for with its own numbers and the values of its options.
-fn read_task(
-    command: Command,
-    numbers: &[u64],
-    arguments: Arguments,
-) -> Result<Task, PartsRefusal>
+fn read_task(command: Command, numbers: &[u64], arguments: Arguments) -> Result<Task, PartsRefusal>
     requires { length numbers.now ≡ (row_of command).own_numbers + 3 }
     ensures value { result ≡ task_of command numbers.now arguments }
     ensures in_range { IfOk result (λ task. IsInRange task) }

@@ -43,7 +43,10 @@ impl fmt::Display for ValueRefusal {
     fn fmt<W: fmt::Write>(&self, f: &mut fmt::Formatter<W>) -> fmt::Result {
         match self {
             ValueRefusal::NoInverse { index, common } => {
-                write!(f, "Delta {index} has the common factor {common} with the modulus")
+                write!(
+                    f,
+                    "Delta {index} has the common factor {common} with the modulus"
+                )
             }
             ValueRefusal::Wide { step, ends } => write!(f, "{step} has {ends} open ends"),
             ValueRefusal::Table { step } => write!(f, "{step} has more than 262144 pairings"),
