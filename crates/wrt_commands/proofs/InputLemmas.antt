@@ -1,18 +1,19 @@
 -- What the bytes of an input come to, from what their reading does; that this is one thing, and something, where the shape of text has
 -- its two laws; and that diagrams have them.
-use Rattle.std.proofs.Common.{◌≡◌, ◌≤◌, ◌∙◌, inl, inr, ℕ, List, length, Option, Some, Result, Ok, Err, refl, sym, ap, arith}
+use Rattle.std.proofs.Common.{◌≡◌, ◌≢◌, ◌⊎◌, ◌<◌, ◌≤◌, ◌∙◌, inl, inr, ℕ, List, length, Option, Some, None, Result, Ok, Err, refl, sym, ap, arith}
 use Rattle.std.proofs.lemmas.Bool.{cases_lt}
+use Rattle.pd_reader.specs.declared.item.Item.{Item}
 use Rattle.pd_reader.specs.declared.fault.TextFault.{TextFault}
 use Rattle.pd_reader.specs.declared.fault.TextFault.TheVariants as texts
-use Rattle.pd_reader.specs.Refusals.{IsPdRefusal, IsPdReading}
-use Rattle.pd_reader.specs.Faults.{IsNamed, cause}
+use Rattle.pd_reader.specs.Refusals.{IsPdReading, IsPdRefusal, IsNetReading, IsNetRefusal}
+use Rattle.pd_reader.specs.Faults.{IsNamed, cause, no_memory}
 use Rattle.pd_reader.proofs.OneReading.{readings_are_unique_lem, readings_exist_lem}
 use Rattle.wrt_commands.specs.declared.refusal.Refusal.{Refusal}
 use Rattle.wrt_commands.specs.declared.refusal.Refusal.TheVariants as refusals
 use Rattle.wrt_commands.specs.declared.stop.Stop.{Stop}
 use Rattle.wrt_commands.specs.declared.text_refusal.Counted.TheVariants.{Items}
 use Rattle.wrt_commands.specs.declared.text_refusal.TextRefusal.{TextRefusal}
-use Rattle.wrt_commands.specs.Inputs.{IsTextOutcome, IsInputOutcome, IsPdOutcome, HasOneOutcome, HasOutcome}
+use Rattle.wrt_commands.specs.Inputs.{IsTextOutcome, IsInputOutcome, IsPdOutcome, IsNetTextOutcome, HasOneOutcome, HasOutcome}
 use Rattle.wrt_request.specs.Stages.{after}
 use Rattle.wrt_commands.specs.Stops.{Is, Stops, Answers}
 use Rattle.wrt_commands.specs.TextRefusals.{refusal_of_text, stop_of_text}
@@ -87,3 +88,27 @@ pd_stops bytes (texts.Text at) h named = (texts.Text at, _, ((λ e. cc), h, name
 pd_stops bytes (texts.TooMany limit) h named = (texts.TooMany limit, _, ((λ e. cc), h, named), refl, refl)
 pd_stops bytes (texts.Label label count) h named = (texts.Label label count, _, ((λ e. cc), h, named), refl, refl)
 pd_stops bytes texts.Memory h named = tt
+
+-- ---- nets
+pub net_one_outcome : HasOneOutcome IsNetTextOutcome
+net_one_outcome = one_outcome_of_text IsNetReading (refusal_of_text Items) readings_are_unique_lem.1
+
+net_told : (bytes : List ℕ) (fault : TextFault) → IsNetReading bytes (Err fault) → (refused : TextRefusal) × (refusal_of_text Items fault ≡ Some refused)
+net_told bytes (texts.Head at) h = (_, refl)
+net_told bytes (texts.Number at) h = (_, refl)
+net_told bytes (texts.Text at) h = (_, refl)
+net_told bytes (texts.TooMany limit) h = (_, refl)
+net_told bytes (texts.Label label count) h = (_, refl)
+net_told bytes texts.Memory h = absurd (h.0 refl)
+
+pub net_outcome : HasOutcome IsNetTextOutcome
+net_outcome bytes = let r = readings_exist_lem.1 bytes in text_of_reading IsNetReading (refusal_of_text Items) net_told bytes r.0 r.1
+
+-- a fault of the reader
+pub net_stops : (bytes : List ℕ) (fault : TextFault) → IsNetRefusal bytes fault → IsNamed bytes (cause fault) → Stops (IsNetTextOutcome bytes) (stop_of_text Items fault)
+net_stops bytes (texts.Head at) h named = (texts.Head at, _, ((λ e. cc), h, named), refl, refl)
+net_stops bytes (texts.Number at) h named = (texts.Number at, _, ((λ e. cc), h, named), refl, refl)
+net_stops bytes (texts.Text at) h named = (texts.Text at, _, ((λ e. cc), h, named), refl, refl)
+net_stops bytes (texts.TooMany limit) h named = (texts.TooMany limit, _, ((λ e. cc), h, named), refl, refl)
+net_stops bytes (texts.Label label count) h named = (texts.Label label count, _, ((λ e. cc), h, named), refl, refl)
+net_stops bytes texts.Memory h named = tt

@@ -4,6 +4,7 @@ pub mod ParametersLemmas
 pub mod StatusLemmas
 pub mod DiagramLemmas
 pub mod ColouredLemmas
+pub mod NetLemmas
 pub mod RunLemmas
 pub mod TaskLemmas
 pub mod NoWords

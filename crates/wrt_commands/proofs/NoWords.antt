@@ -3,19 +3,20 @@ use Rattle.std.proofs.Common.{String, Global, ◌≡◌, ◌∙◌, inl, inr, �
 use Rattle.std.specs.Prelude.{MatchResult}
 use Rattle.root_quantum.specs.Parameters.{Parameters}
 use Rattle.pd_reader.specs.declared.item.Item.{Item}
-use Rattle.pd_reader.specs.Refusals.{IsPdReading}
+use Rattle.pd_reader.specs.declared.item.NetItem.{NetItem}
+use Rattle.pd_reader.specs.Refusals.{IsPdReading, IsNetReading}
 use Rattle.pd_reader.specs.Torus.{torus_items}
 use Rattle.frontier_laws.specs.Orders.{View}
 use Rattle.skein_network.specs.declared.fault.CableFault.{CableFault}
 use Rattle.skein_network.specs.declared.fault.CableFault.TheVariants as faults
-use Rattle.wrt_values.specs.Coloured.{coloured_value}
+use Rattle.wrt_values.specs.Coloured.{coloured_value, net_value}
 use Rattle.wrt_values.specs.Values.{bracket_value}
 use Rattle.wrt_values.specs.declared.fault.ValueRefusal.{ValueRefusal}
 use Rattle.wrt_values.specs.declared.value.Value.{Value}
 use Rattle.wrt_request.specs.Stages.{after}
 use Rattle.wrt_request.specs.declared.request.Sweep.{Sweep}
 use Rattle.wrt_request.specs.declared.request.Task.{Task}
-use Rattle.wrt_request.specs.declared.request.Task.TheVariants.{Bracket, Colored, Torus}
+use Rattle.wrt_request.specs.declared.request.Task.TheVariants.{Bracket, Colored, Net, Torus}
 use Rattle.wrt_commands.specs.declared.opening.Opened.{Opened}
 use Rattle.wrt_commands.specs.declared.refusal.Refusal.{Refusal}
 use Rattle.wrt_commands.specs.declared.refusal.Refusal.TheVariants.{Words, Value as ValueRefused}
@@ -27,7 +28,8 @@ use Rattle.wrt_commands.specs.declared.words_refusal.WordsRefusal.{WordsRefusal}
 use Rattle.wrt_commands.specs.ColourFits.{fits, fit_components}
 use Rattle.wrt_commands.specs.ColouredReports.{fitted_report, coloured_report}
 use Rattle.wrt_commands.specs.DiagramReports.{planar, item_order, diagram_report}
-use Rattle.wrt_commands.specs.Inputs.{IsInputOutcome, IsTextOutcome, IsPdOutcome}
+use Rattle.wrt_commands.specs.Inputs.{IsInputOutcome, IsTextOutcome, IsPdOutcome, IsNetTextOutcome}
+use Rattle.wrt_commands.specs.NetReports.{planar_net, net_order, fit_labels, fitted_net_report, net_report}
 use Rattle.wrt_commands.specs.Outcomes.{Outcome, IsTaskOutcome}
 use Rattle.wrt_commands.specs.Runs.{IsStoppedAt}
 use Rattle.wrt_commands.specs.Stops.{refused_as}
@@ -87,6 +89,16 @@ module _ (p : Parameters) (sweep : Sweep) where
       behind (planar items) (λ flat. after (fit_components p flat colours) (λ _. fitted_report p sweep colours flat)) (plane_no_words items)
       (λ flat. behind (fit_components p flat colours) (λ _. fitted_report p sweep colours flat) (fitted _) (λ _. fitted_no_words colours flat))
 
+  fitted_net_no_words : (colours : List ℕ) (items : List NetItem) → IsNoWords (fitted_net_report p sweep colours items)
+  fitted_net_no_words colours items =
+      behind (net_order sweep.order items) (λ next. after (refused_as ValueRefused (net_value next p items colours)) (with_value sweep)) (tested _ _ _ (λ words e. absurd (cc)))
+      (λ next. behind (refused_as ValueRefused (net_value next p items colours)) (with_value sweep) (valued (net_value next p items colours)) (λ value. reported _))
+
+  net_no_words : (colours : List ℕ) (items : List NetItem) → IsNoWords (net_report p sweep colours items)
+  net_no_words colours items =
+      behind (planar_net items) (λ flat. after (fit_labels p flat colours) (λ _. fitted_net_report p sweep colours flat)) (tested _ items _ (λ words e. absurd (cc)))
+      (λ flat. behind (fit_labels p flat colours) (λ _. fitted_net_report p sweep colours flat) (fitted _) (λ _. fitted_net_no_words colours flat))
+
 -- ---- inputs
 text_no_words : {A F : Type 0} (reading : List ℕ → Result A F → Type 0) (refusal_of : F → Option TextRefusal) (bytes : List ℕ) (read : Result A Refusal)
     → IsTextOutcome reading refusal_of bytes read → IsNoWords read
@@ -101,9 +113,13 @@ input_no_words is_text next bytes outcome texts values (inr read) = λ words e. 
 pd_no_words : (bytes : List ℕ) (read : Result (List Item) Refusal) → IsPdOutcome bytes read → IsNoWords read
 pd_no_words bytes read h = text_no_words IsPdReading (refusal_of_text Items) bytes read h
 
+net_text_no_words : (bytes : List ℕ) (read : Result (List NetItem) Refusal) → IsNetTextOutcome bytes read → IsNoWords read
+net_text_no_words bytes read h = text_no_words IsNetReading (refusal_of_text Items) bytes read h
+
 task_no_words : (p : Parameters) (task : Task) (bytes : List ℕ) (outcome : Outcome) → IsTaskOutcome p task bytes outcome → IsNoWords outcome
 task_no_words p (Bracket sweep) bytes outcome h = input_no_words IsPdOutcome (diagram_report p sweep) bytes outcome (pd_no_words bytes) (diagram_no_words p sweep) h
 task_no_words p (Colored colours sweep) bytes outcome h = input_no_words IsPdOutcome (coloured_report p sweep colours) bytes outcome (pd_no_words bytes) (coloured_no_words p sweep colours) h
+task_no_words p (Net colours sweep) bytes outcome h = input_no_words IsNetTextOutcome (net_report p sweep colours) bytes outcome (net_text_no_words bytes) (net_no_words p sweep colours) h
 task_no_words p (Torus crossings sweep) bytes outcome h = λ words e. diagram_no_words p sweep (torus_items crossings) words (h ∙ e)
 
 -- NO TASK STOPS FOR ITS WORDS

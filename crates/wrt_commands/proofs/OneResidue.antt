@@ -5,16 +5,18 @@ use Rattle.root_quantum.specs.Parameters.{Parameters}
 use Rattle.pd_reader.specs.declared.item.Item.{Item}
 use Rattle.pd_reader.specs.Torus.{torus_items}
 use Rattle.diagram_brackets.specs.Brackets.{bracket}
+use Rattle.cables.specs.Nets.{coloured_net}
 use Rattle.coloured_values.specs.Coloured.{coloured}
 use Rattle.frontier_laws.specs.Orders.{View}
-use Rattle.wrt_values.specs.Coloured.{coloured_value}
+use Rattle.wrt_values.specs.Coloured.{coloured_value, net_value}
 use Rattle.wrt_values.specs.Values.{bracket_value}
 use Rattle.wrt_values.specs.declared.fault.ValueRefusal.{ValueRefusal}
 use Rattle.wrt_values.specs.declared.value.Value.{Value}
-use Rattle.wrt_values.proofs.OneResidue.{one_residue_law, coloured_residue_law}
+use Rattle.skein_network.specs.Refusals.{net_colour}
+use Rattle.wrt_values.proofs.OneResidue.{one_residue_law, coloured_residue_law, net_residue_law}
 use Rattle.wrt_request.specs.declared.request.Sweep.{Sweep}
 use Rattle.wrt_request.specs.declared.request.Task.{Task}
-use Rattle.wrt_request.specs.declared.request.Task.TheVariants.{Bracket, Colored, Torus}
+use Rattle.wrt_request.specs.declared.request.Task.TheVariants.{Bracket, Colored, Net, Torus}
 use Rattle.wrt_commands.specs.declared.opening.Opened.{Opened}
 use Rattle.wrt_commands.specs.declared.refusal.Refusal.{Refusal}
 use Rattle.wrt_commands.specs.declared.refusal.Refusal.TheVariants.{Value as ValueRefused}
@@ -22,15 +24,17 @@ use Rattle.wrt_commands.specs.ColourFits.{fit_components}
 use Rattle.wrt_commands.specs.ColoredOutcomes.{IsColoredOutcome}
 use Rattle.wrt_commands.specs.ColouredReports.{fitted_report, coloured_report}
 use Rattle.wrt_commands.specs.DiagramReports.{item_order, diagram_report}
-use Rattle.wrt_commands.specs.Inputs.{IsInputOutcome, IsPdOutcome, HasOneOutcome}
-use Rattle.wrt_commands.specs.Laws.{IsReportOf, ReportsAreOfBrackets, ReportsAreOfColouredValues, OneResidue, plain_task, AskAlike}
+use Rattle.wrt_commands.specs.Inputs.{IsInputOutcome, IsPdOutcome, IsNetTextOutcome, HasOneOutcome}
+use Rattle.wrt_commands.specs.Laws.{IsReportOf, ReportsAreOfBrackets, ReportsAreOfColouredValues, ReportsAreOfNetValues, OneResidue, plain_task, AskAlike}
+use Rattle.wrt_commands.specs.NetOutcomes.{IsNetOutcome}
+use Rattle.wrt_commands.specs.NetReports.{net_order, fit_labels, fitted_net_report, net_report}
 use Rattle.wrt_commands.specs.Openings.{opening}
 use Rattle.wrt_commands.specs.Outcomes.{IsTaskOutcome, IsOutcomeAt}
 use Rattle.wrt_commands.specs.Reports.{report_of}
 use Rattle.wrt_request.specs.Stages.{after}
 use Rattle.wrt_commands.specs.Stops.{refused_as}
 use Rattle.wrt_commands.proofs.DiagramLemmas.{with_value, with_order, with_plane}
-use Rattle.wrt_commands.proofs.InputLemmas.{pd_one_outcome}
+use Rattle.wrt_commands.proofs.InputLemmas.{pd_one_outcome, net_one_outcome}
 
 -- ---- the steps of a report
 -- a value's
@@ -72,6 +76,14 @@ reports_are_of_coloured_values_law p sweep colours items report h =
     (λ next value is. coloured_residue_law next p items colours value is)
     (of_fit (fit_components p items colours) (fitted_report p sweep colours items) report
     (of_plane items (λ flat. after (fit_components p flat colours) (λ _. fitted_report p sweep colours flat)) _ _ report h))
+
+-- ---- one net
+pub reports_are_of_net_values_law : ReportsAreOfNetValues
+reports_are_of_net_values_law p sweep colours items report h =
+    of_order sweep (coloured_net p items (net_colour items colours)) (λ next. net_value next p items colours) (net_order sweep.order items) report
+    (λ next value is. net_residue_law next p items colours value is)
+    (of_fit (fit_labels p items colours) (fitted_net_report p sweep colours items) report
+    (of_plane items (λ flat. after (fit_labels p flat colours) (λ _. fitted_net_report p sweep colours flat)) _ _ report h))
 
 -- ---- one input
 abbrev IsShared : List ℕ → List ℕ → Type 0
@@ -116,6 +128,17 @@ of_tasks p (Colored colours sweep) (Colored others swept) bytes report other ali
     of_inputs IsPdOutcome pd_one_outcome (λ items. coloured p items colours) (coloured_report p sweep colours) (coloured_report p swept colours)
     (reports_are_of_coloured_values_law p sweep colours) (reports_are_of_coloured_values_law p swept colours) bytes report other h (subst P same k)
 of_tasks p (Colored colours sweep) (Torus n swept) bytes report other alike h k = absurd (cc)
+of_tasks p (Bracket sweep) (Net colours swept) bytes report other alike h k = absurd (cc)
+of_tasks p (Colored colours sweep) (Net others swept) bytes report other alike h k = absurd (cc)
+of_tasks p (Net colours sweep) (Bracket swept) bytes report other alike h k = absurd (cc)
+of_tasks p (Net colours sweep) (Colored others swept) bytes report other alike h k = absurd (cc)
+of_tasks p (Net colours sweep) (Net others swept) bytes report other alike h k =
+    let same : others ≡ colours = cc in
+    let P : List ℕ → Type 0 = λ list. IsNetOutcome p list swept bytes (Ok other) in
+    of_inputs IsNetTextOutcome net_one_outcome (λ items. coloured_net p items (net_colour items colours)) (net_report p sweep colours) (net_report p swept colours)
+    (reports_are_of_net_values_law p sweep colours) (reports_are_of_net_values_law p swept colours) bytes report other h (subst P same k)
+of_tasks p (Net colours sweep) (Torus n swept) bytes report other alike h k = absurd (cc)
+of_tasks p (Torus m sweep) (Net colours swept) bytes report other alike h k = absurd (cc)
 of_tasks p (Torus m sweep) (Bracket swept) bytes report other alike h k = absurd (cc)
 of_tasks p (Torus m sweep) (Colored colours swept) bytes report other alike h k = absurd (cc)
 of_tasks p (Torus m sweep) (Torus n swept) bytes report other alike h k =

@@ -3,7 +3,7 @@ use Rattle.std.proofs.Common.{String, Global, ◌≡◌, ◌∙◌, ◌<◌, inl
 use Rattle.std.specs.Prelude.{MatchResult, string_bytes}
 use Rattle.wrt_request.specs.declared.request.Sweep.{Sweep}
 use Rattle.wrt_request.specs.declared.request.Task.{Task}
-use Rattle.wrt_request.specs.declared.request.Task.TheVariants.{Bracket, Colored, Torus}
+use Rattle.wrt_request.specs.declared.request.Task.TheVariants.{Bracket, Colored, Net, Torus}
 use Rattle.wrt_commands.specs.declared.opening.Opened.{Opened}
 use Rattle.wrt_commands.specs.declared.refusal.Refusal.TheVariants as refusals
 use Rattle.wrt_commands.specs.declared.stop.Stop.{Stop}
@@ -37,3 +37,7 @@ module _ (asked : Opened) where
   pub colored_stopped : (colours : List ℕ) (sweep : Sweep) (left : Option (List ℕ)) (of stop : Stop) → asked.task ≡ Colored colours sweep → stop ≡ of → IsUnread left of
       → (bytes : List ℕ) × IsTold left bytes × IsStoppedAt (Ok asked) bytes stop
   colored_stopped colours sweep = unread_task (Colored colours sweep) refl (λ bytes long. inl (long, refl))
+
+  pub net_stopped : (colours : List ℕ) (sweep : Sweep) (left : Option (List ℕ)) (of stop : Stop) → asked.task ≡ Net colours sweep → stop ≡ of → IsUnread left of
+      → (bytes : List ℕ) × IsTold left bytes × IsStoppedAt (Ok asked) bytes stop
+  net_stopped colours sweep = unread_task (Net colours sweep) refl (λ bytes long. inl (long, refl))

@@ -2,22 +2,24 @@
 use Rattle.std.proofs.Common.{◌≡◌, ◌∙◌, ℕ, List, false, Result, Ok, Err, refl, sym}
 use Rattle.root_quantum.specs.Parameters.{Parameters}
 use Rattle.wrt_request.specs.declared.request.Task.{Task}
-use Rattle.wrt_request.specs.declared.request.Task.TheVariants.{Bracket, Colored, Torus}
+use Rattle.wrt_request.specs.declared.request.Task.TheVariants.{Bracket, Colored, Net, Torus}
 use Rattle.wrt_commands.specs.declared.opening.Opened.{Opened}
 use Rattle.wrt_commands.specs.declared.refusal.Refusal.{Refusal}
 use Rattle.wrt_commands.specs.ColouredReports.{coloured_report}
 use Rattle.wrt_commands.specs.DiagramReports.{diagram_report}
-use Rattle.wrt_commands.specs.Inputs.{IsPdOutcome}
+use Rattle.wrt_commands.specs.Inputs.{IsNetTextOutcome, IsPdOutcome}
 use Rattle.wrt_commands.specs.Laws.{OutcomesAreUnique, OutcomesExist}
+use Rattle.wrt_commands.specs.NetReports.{net_report}
 use Rattle.wrt_commands.specs.Openings.{opening, is_about_input, reads_input}
 use Rattle.wrt_commands.specs.Outcomes.{Outcome, IsTaskOutcome, IsOutcomeAt}
 use Rattle.wrt_commands.specs.TorusOutcomes.{torus_outcome}
-use Rattle.wrt_commands.proofs.InputLemmas.{one_input, some_input, pd_one_outcome, pd_outcome}
+use Rattle.wrt_commands.proofs.InputLemmas.{one_input, some_input, pd_one_outcome, pd_outcome, net_one_outcome, net_outcome}
 
 -- ---- at most one
 one_of_task : (p : Parameters) (task : Task) (bytes : List ℕ) (x y : Outcome) → IsTaskOutcome p task bytes x → IsTaskOutcome p task bytes y → x ≡ y
 one_of_task p (Bracket sweep) bytes x y h k = one_input IsPdOutcome (diagram_report p sweep) bytes pd_one_outcome x y h k
 one_of_task p (Colored colours sweep) bytes x y h k = one_input IsPdOutcome (coloured_report p sweep colours) bytes pd_one_outcome x y h k
+one_of_task p (Net colours sweep) bytes x y h k = one_input IsNetTextOutcome (net_report p sweep colours) bytes net_one_outcome x y h k
 one_of_task p (Torus crossings sweep) bytes x y h k = sym h ∙ k
 
 one_outcome : (at : Result Opened Refusal) (bytes : List ℕ) (x y : Outcome) → IsOutcomeAt at bytes x → IsOutcomeAt at bytes y → x ≡ y
@@ -31,6 +33,7 @@ outcomes_are_unique_law words bytes x y h k = one_outcome (opening words) bytes 
 of_task : (p : Parameters) (task : Task) (bytes : List ℕ) → (outcome : Outcome) × IsTaskOutcome p task bytes outcome
 of_task p (Bracket sweep) bytes = some_input IsPdOutcome (diagram_report p sweep) bytes pd_outcome
 of_task p (Colored colours sweep) bytes = some_input IsPdOutcome (coloured_report p sweep colours) bytes pd_outcome
+of_task p (Net colours sweep) bytes = some_input IsNetTextOutcome (net_report p sweep colours) bytes net_outcome
 of_task p (Torus crossings sweep) bytes = (torus_outcome p crossings sweep, refl)
 
 of_opening : (at : Result Opened Refusal) (bytes : List ℕ) → (outcome : Outcome) × IsOutcomeAt at bytes outcome
@@ -45,6 +48,7 @@ outcomes_exist_law words bytes = of_opening (opening words) bytes
 unread_task : (p : Parameters) (task : Task) (bytes other : List ℕ) (outcome : Outcome) → is_about_input task ≡ false → IsTaskOutcome p task bytes outcome → IsTaskOutcome p task other outcome
 unread_task p (Bracket sweep) bytes other outcome unread h = absurd (cc)
 unread_task p (Colored colours sweep) bytes other outcome unread h = absurd (cc)
+unread_task p (Net colours sweep) bytes other outcome unread h = absurd (cc)
 unread_task p (Torus crossings sweep) bytes other outcome unread h = h
 
 -- other bytes come to the same

@@ -6,9 +6,11 @@
 --                                                       too long, or they are a text, of a value or refused
 --     HasOneOutcome, HasOutcome is_text                 the two laws of a shape: bytes come to at most one outcome, and to one at least
 --     IsPdOutcome bytes outcome                         the shape of diagrams: `PD[..]`
+--     IsNetTextOutcome bytes outcome                    the shape of nets: `Net[..]`
 use Rattle.std.specs.Prelude.{◌≡◌, ◌⊎◌, ℕ, ◌<◌, ◌≤◌, List, length, Option, Some, Result, Ok, Err}
 use Rattle.pd_reader.specs.declared.item.Item.{Item}
-use Rattle.pd_reader.specs.Refusals.{IsPdReading}
+use Rattle.pd_reader.specs.declared.item.NetItem.{NetItem}
+use Rattle.pd_reader.specs.Refusals.{IsPdReading, IsNetReading}
 use Rattle.wrt_commands.specs.declared.refusal.Refusal.{Refusal}
 use Rattle.wrt_commands.specs.declared.refusal.Refusal.TheVariants.{TooLong, Text}
 use Rattle.wrt_commands.specs.declared.text_refusal.Counted.TheVariants.{Items}
@@ -43,3 +45,7 @@ HasOutcome {A = A} is_text = (bytes : List ℕ) → (read : Result A Refusal) ×
 -- Diagrams: their limit is on items.
 abbrev pub IsPdOutcome : List ℕ → Result (List Item) Refusal → Type 0
 IsPdOutcome = IsTextOutcome IsPdReading (refusal_of_text Items)
+
+-- Nets: likewise.
+abbrev pub IsNetTextOutcome : List ℕ → Result (List NetItem) Refusal → Type 0
+IsNetTextOutcome = IsTextOutcome IsNetReading (refusal_of_text Items)

@@ -4,20 +4,25 @@
 --     OutcomesExist          and to one at least
 --     OneResidue             two reports of one task, at the same parameters and bytes, begin with one residue, whatever the orders
 --     ReportsAreOfBrackets   the residue that the report of a diagram tells is its bracket
+--     ReportsAreOfNetValues  the same for a net
 --     ReportsAreOfColouredValues   the residue that the report of a diagram with colours tells is its value with these colours
 use Rattle.std.specs.Prelude.{◌≡◌, ℕ, false, List, Option, Result, Ok, Err}
 use Rattle.root_quantum.specs.Parameters.{Parameters}
 use Rattle.pd_reader.specs.declared.item.Item.{Item}
+use Rattle.pd_reader.specs.declared.item.NetItem.{NetItem}
 use Rattle.diagram_brackets.specs.Brackets.{bracket}
+use Rattle.cables.specs.Nets.{coloured_net}
 use Rattle.coloured_values.specs.Coloured.{coloured}
+use Rattle.skein_network.specs.Refusals.{net_colour}
 use Rattle.wrt_request.specs.declared.order.OrderWord.TheVariants.{Listed}
 use Rattle.wrt_request.specs.declared.request.Sweep.{Sweep}
 use Rattle.wrt_request.specs.declared.request.Task.{Task}
-use Rattle.wrt_request.specs.declared.request.Task.TheVariants.{Bracket, Colored, Torus}
+use Rattle.wrt_request.specs.declared.request.Task.TheVariants.{Bracket, Colored, Net, Torus}
 use Rattle.wrt_commands.specs.declared.opening.Opened.{Opened}
 use Rattle.wrt_commands.specs.declared.refusal.Refusal.{Refusal}
 use Rattle.wrt_commands.specs.ColouredReports.{coloured_report}
 use Rattle.wrt_commands.specs.DiagramReports.{diagram_report}
+use Rattle.wrt_commands.specs.NetReports.{net_report}
 use Rattle.wrt_commands.specs.Openings.{opening}
 use Rattle.wrt_commands.specs.Outcomes.{Outcome, IsOutcome}
 use Rattle.wrt_commands.specs.Reports.{report_of}
@@ -43,6 +48,11 @@ abbrev pub ReportsAreOfColouredValues : Type 0
 ReportsAreOfColouredValues =
     (p : Parameters) (sweep : Sweep) (colours : List ℕ) (items : List Item) (report : List ℕ) → coloured_report p sweep colours items ≡ Ok report → IsReportOf (coloured p items colours) report
 
+-- a report that a net comes to, in any order, is one of its value with these colours
+abbrev pub ReportsAreOfNetValues : Type 0
+ReportsAreOfNetValues =
+    (p : Parameters) (sweep : Sweep) (colours : List ℕ) (items : List NetItem) (report : List ℕ) → net_report p sweep colours items ≡ Ok report → IsReportOf (coloured_net p items (net_colour items colours)) report
+
 -- the task in the listed order and without turns
 abbrev pub plain_sweep : Sweep
 plain_sweep = record { order = Listed; turns = false }
@@ -50,6 +60,7 @@ plain_sweep = record { order = Listed; turns = false }
 abbrev pub plain_task : Task → Task
 plain_task (Bracket sweep) = Bracket plain_sweep
 plain_task (Colored colours sweep) = Colored colours plain_sweep
+plain_task (Net colours sweep) = Net colours plain_sweep
 plain_task (Torus crossings sweep) = Torus crossings plain_sweep
 
 -- the openings ask for one task at the same parameters, but for the options of the sweep

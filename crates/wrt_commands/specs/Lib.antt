@@ -18,6 +18,8 @@ pub mod BracketOutcomes
 pub mod ColourFits
 pub mod ColouredReports
 pub mod ColoredOutcomes
+pub mod NetReports
+pub mod NetOutcomes
 pub mod TorusOutcomes
 pub mod Outcomes
 pub mod Runs

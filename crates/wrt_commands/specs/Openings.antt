@@ -8,7 +8,7 @@ use Rattle.wrt_parts.specs.Texts.{Texts}
 use Rattle.wrt_words.specs.Words.{parts_of}
 use Rattle.wrt_request.specs.declared.request.Request.{Request}
 use Rattle.wrt_request.specs.declared.request.Task.{Task}
-use Rattle.wrt_request.specs.declared.request.Task.TheVariants.{Bracket, Colored, Torus}
+use Rattle.wrt_request.specs.declared.request.Task.TheVariants.{Bracket, Colored, Net, Torus}
 use Rattle.wrt_request.specs.declared.fault.PartsRefusal.{PartsRefusal}
 use Rattle.wrt_request.specs.Requests.{request_of}
 use Rattle.wrt_commands.specs.declared.opening.Opened.{Opened}
@@ -48,6 +48,7 @@ opening words = after (line_of (parts_of words)) with_texts
 abbrev pub is_about_input : Task → Bool
 is_about_input (Bracket sweep) = true
 is_about_input (Colored colours sweep) = true
+is_about_input (Net colours sweep) = true
 is_about_input (Torus crossings sweep) = false
 
 -- The input is read.

@@ -12,11 +12,12 @@
 use Rattle.std.specs.Prelude.{ℕ, List, Result, Ok, Err}
 use Rattle.root_quantum.specs.Parameters.{Parameters}
 use Rattle.wrt_request.specs.declared.request.Task.{Task}
-use Rattle.wrt_request.specs.declared.request.Task.TheVariants.{Bracket, Colored, Torus}
+use Rattle.wrt_request.specs.declared.request.Task.TheVariants.{Bracket, Colored, Net, Torus}
 use Rattle.wrt_commands.specs.declared.opening.Opened.{Opened}
 use Rattle.wrt_commands.specs.declared.refusal.Refusal.{Refusal}
 use Rattle.wrt_commands.specs.BracketOutcomes.{IsBracketOutcome}
 use Rattle.wrt_commands.specs.ColoredOutcomes.{IsColoredOutcome}
+use Rattle.wrt_commands.specs.NetOutcomes.{IsNetOutcome}
 use Rattle.wrt_commands.specs.TorusOutcomes.{torus_outcome}
 use Rattle.wrt_commands.specs.Openings.{opening}
 use Rattle.wrt_commands.specs.Stops.{Is}
@@ -29,6 +30,7 @@ Outcome = Result (List ℕ) Refusal
 abbrev pub IsTaskOutcome : Parameters → Task → List ℕ → Outcome → Type 0
 IsTaskOutcome p (Bracket sweep) bytes outcome = IsBracketOutcome p sweep bytes outcome
 IsTaskOutcome p (Colored colours sweep) bytes outcome = IsColoredOutcome p colours sweep bytes outcome
+IsTaskOutcome p (Net colours sweep) bytes outcome = IsNetOutcome p colours sweep bytes outcome
 IsTaskOutcome p (Torus crossings sweep) bytes outcome = Is (torus_outcome p crossings sweep) outcome
 
 -- What bytes come to, where the words come to an opening.

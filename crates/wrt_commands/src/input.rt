@@ -1,9 +1,9 @@
-//! The input: its bytes, and the diagram that they spell.
+//! The input: its bytes, and the diagram or the net that they spell.
 
 ghost use Rattle.std.specs.Prelude.{◌≡◌, ◌≢◌, ◌≤◌, Err, MatchResult, OnOk};
 ghost use Rattle.skein_io.specs.Faults.{Rose};
 ghost use Rattle.skein_io.specs.Source.{IsSuffix};
-ghost use Rattle.wrt_commands.specs.Inputs.{IsPdOutcome};
+ghost use Rattle.wrt_commands.specs.Inputs.{IsNetTextOutcome, IsPdOutcome};
 ghost use Rattle.wrt_commands.specs.Runs.{IsAtEnd, IsRead, IsUnread};
 ghost use Rattle.wrt_commands.specs.Stops.{Answers};
 ghost use Rattle.wrt_commands.specs.TextRefusals.{stop_of_text};
@@ -13,7 +13,7 @@ use crate::refusal::Refusal;
 use crate::stop::Stop;
 use crate::text_refusal::{Counted, TextRefusal};
 use crate::too_long::TooLong;
-use pd_reader::{Diagram, TextFault, read_pd};
+use pd_reader::{Diagram, NetDiagram, TextFault, read_net, read_pd};
 use skein_io::{ReadAll, Source, read_all};
 use std::alloc::Global;
 
@@ -55,6 +55,16 @@ pub(crate) fn read_diagram(alloc: Global, bytes: &[u8]) -> Result<Diagram, Stop>
 {
     match read_pd(alloc, bytes) {
         Ok(diagram) => Ok(diagram),
+        Err(fault) => Err(refused_text(fault, Counted::Items)),
+    }
+}
+
+/// The net that the bytes spell.
+pub(crate) fn read_net_input(alloc: Global, bytes: &[u8]) -> Result<NetDiagram, Stop>
+    ensures { Answers (IsNetTextOutcome bytes.now) (λ net. net) result }
+{
+    match read_net(alloc, bytes) {
+        Ok(net) => Ok(net),
         Err(fault) => Err(refused_text(fault, Counted::Items)),
     }
 }

@@ -1,6 +1,6 @@
 //! Laws over the definitions alone: the facts that these functions ensure, which do nothing.
 
-ghost use Rattle.wrt_commands.specs.Laws.{OneResidue, OutcomesAreUnique, OutcomesExist, ReportsAreOfBrackets, ReportsAreOfColouredValues};
+ghost use Rattle.wrt_commands.specs.Laws.{OneResidue, OutcomesAreUnique, OutcomesExist, ReportsAreOfBrackets, ReportsAreOfColouredValues, ReportsAreOfNetValues};
 
 /// The words and the bytes of the input come to at most one outcome: so what `run` says of an outcome says what the
 /// program prints.
@@ -22,6 +22,11 @@ pub fn reports_are_of_brackets()
 /// The residue of a report of a diagram with colours is its value with these colours, in whatever order its crossings are taken.
 pub fn reports_are_of_coloured_values()
     ensures { ReportsAreOfColouredValues }
+{}
+
+/// The residue of a report of a net with colours is its value with these colours, in whatever order its items are taken.
+pub fn reports_are_of_net_values()
+    ensures { ReportsAreOfNetValues }
 {}
 
 /// Two runs of one task, at the same parameters and bytes, that both end with a report, print the same residue, whatever

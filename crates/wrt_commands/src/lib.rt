@@ -12,6 +12,8 @@ mod diagram_report;
 mod input;
 mod item_order;
 mod laws;
+mod net;
+mod net_report;
 mod opening;
 mod parameters;
 mod parameters_refusal;
@@ -31,7 +33,7 @@ mod words_refusal;
 pub use arguments_refusal::ArgumentsRefusal;
 pub use laws::{
     one_residue, outcomes_are_unique, outcomes_exist, reports_are_of_brackets,
-    reports_are_of_coloured_values,
+    reports_are_of_coloured_values, reports_are_of_net_values,
 };
 pub use parameters::read_parameters;
 pub use parameters_refusal::ParametersRefusal;

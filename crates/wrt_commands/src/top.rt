@@ -16,6 +16,7 @@ ghost use Rattle.wrt_commands.specs.declared.words_refusal.WordsRefusal.TheVaria
 use crate::bracket::bracket_report;
 use crate::colored::colored_report;
 use crate::input::read_input;
+use crate::net::coloured_net_report;
 use crate::opening::{Opened, open_words};
 use crate::status::Status;
 use crate::stop::Stop;
@@ -44,6 +45,10 @@ fn task_report<S: Source>(alloc: Global, opened: &Opened, source: &mut S) -> Res
         Task::Colored { colours, sweep } => {
             let bytes = read_input(alloc, source)?;
             colored_report(alloc, &opened.params, colours.members(), sweep, &bytes)
+        }
+        Task::Net { colours, sweep } => {
+            let bytes = read_input(alloc, source)?;
+            coloured_net_report(alloc, &opened.params, colours.members(), sweep, &bytes)
         }
         Task::Torus { crossings, sweep } => torus_report(alloc, &opened.params, *crossings, sweep),
     }

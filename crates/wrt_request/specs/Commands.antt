@@ -7,14 +7,14 @@
 --     check_options command texts      all options that are given belong to the command, or the refusal of the first that
 --                                      doesn't
 --
--- `bracket` and `colored` take M, A and R, and `torus` N before them; `--order` and `--turns` belong to all, and `--colors` to
--- `colored`.
+-- `bracket`, `colored` and `net` take M, A and R, and `torus` N before them; `--order` and `--turns` belong to all, and `--colors` to
+-- `colored` and `net`.
 use Rattle.std.specs.Prelude.{◌&&◌, ℕ, Bool, true, false, not, List, [], ◌∷◌, Option, Some, None, Result, Ok, Err, codes, find}
 use Rattle.std.specs.Str.{bytes_eq}
 use Rattle.wrt_parts.specs.Texts.{Text, Texts}
 use Rattle.wrt_request.specs.Options.{is_given}
 use Rattle.wrt_request.specs.declared.command.Command.{Command}
-use Rattle.wrt_request.specs.declared.command.Command.TheVariants.{Bracket, Colored, Torus}
+use Rattle.wrt_request.specs.declared.command.Command.TheVariants.{Bracket, Colored, Net, Torus}
 use Rattle.wrt_request.specs.declared.command.Options.{Options}
 use Rattle.wrt_request.specs.declared.option_name.OptionName.{OptionName}
 use Rattle.wrt_request.specs.declared.option_name.OptionName.TheVariants.{Colors, Framing, Workers, Order, Turns}
@@ -39,11 +39,12 @@ colors_and_order = record order_and_turns { colors = true }
 abbrev pub row_of : Command → CommandRow
 row_of Bracket = record { name = codes "bracket"; own_numbers = 0; options = order_and_turns }
 row_of Colored = record { name = codes "colored"; own_numbers = 0; options = colors_and_order }
+row_of Net = record { name = codes "net"; own_numbers = 0; options = colors_and_order }
 row_of Torus = record { name = codes "torus"; own_numbers = 1; options = order_and_turns }
 
 -- All commands.
 abbrev pub all_commands : List Command
-all_commands = Bracket ∷ Colored ∷ Torus ∷ []
+all_commands = Bracket ∷ Colored ∷ Net ∷ Torus ∷ []
 
 -- The command that was found, or the refusal where there is none.
 abbrev pub known_command : Option Command → Result Command PartsRefusal

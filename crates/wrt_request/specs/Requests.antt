@@ -24,7 +24,7 @@ use Rattle.wrt_request.specs.declared.request.Numbers.{Numbers}
 use Rattle.wrt_request.specs.declared.request.Request.{Request}
 use Rattle.wrt_request.specs.declared.request.Sweep.{Sweep}
 use Rattle.wrt_request.specs.declared.request.Task.{Task}
-use Rattle.wrt_request.specs.declared.request.Task.TheVariants.{Bracket, Colored, Torus}
+use Rattle.wrt_request.specs.declared.request.Task.TheVariants.{Bracket, Colored, Net, Torus}
 use Rattle.wrt_request.specs.declared.fault.PartsRefusal.{PartsRefusal}
 use Rattle.wrt_request.specs.declared.fault.PartsRefusal.TheVariants.{Crossings}
 
@@ -32,6 +32,7 @@ use Rattle.wrt_request.specs.declared.fault.PartsRefusal.TheVariants.{Crossings}
 abbrev pub task_of : Command → List ℕ → Arguments → Result Task PartsRefusal
 task_of commands.Bracket numbers arguments = Ok (Bracket arguments.sweep)
 task_of commands.Colored numbers arguments = Ok (Colored arguments.colours arguments.sweep)
+task_of commands.Net numbers arguments = Ok (Net arguments.colours arguments.sweep)
 task_of commands.Torus numbers arguments =
     if nat_lt 0 (slice_index numbers 0) && nat_lt (slice_index numbers 0) 257 then Ok (Torus (slice_index numbers 0) arguments.sweep) else Err Crossings
 
@@ -39,6 +40,7 @@ task_of commands.Torus numbers arguments =
 abbrev pub IsInRange : Task → Type 0
 IsInRange (Bracket sweep) = Unit {0}
 IsInRange (Colored colours sweep) = Unit {0}
+IsInRange (Net colours sweep) = Unit {0}
 IsInRange (Torus crossings sweep) = (1 ≤ crossings) × (crossings ≤ 256)
 
 -- M, A and R, behind so many numbers of the command's own.

@@ -15,6 +15,8 @@ pub(crate) enum Command {
     Bracket,
     /// `colored M A R`
     Colored,
+    /// `net M A R`
+    Net,
     /// `torus N M A R`
     Torus,
 }
@@ -57,7 +59,12 @@ const COLORS_AND_ORDER: Options = Options {
 
 impl Command {
     /// All commands.
-    const ALL: [Command; 3] = [Command::Bracket, Command::Colored, Command::Torus];
+    const ALL: [Command; 4] = [
+        Command::Bracket,
+        Command::Colored,
+        Command::Net,
+        Command::Torus,
+    ];
 
     /// The command's row of the table.
     fn row(self) -> Row
@@ -73,6 +80,11 @@ impl Command {
             },
             Command::Colored => Row {
                 name: "colored",
+                own_numbers: 0,
+                options: COLORS_AND_ORDER,
+            },
+            Command::Net => Row {
+                name: "net",
                 own_numbers: 0,
                 options: COLORS_AND_ORDER,
             },

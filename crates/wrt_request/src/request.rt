@@ -52,6 +52,9 @@ pub enum Task {
     /// `colored M A R`: the value of the diagram on the input, whose components have these colours. That they fit it
     /// isn't known yet.
     Colored { colours: NumberList, sweep: Sweep },
+    /// `net M A R`: the value of the net on the input, whose labels have these colours. That they fit it isn't known
+    /// yet.
+    Net { colours: NumberList, sweep: Sweep },
     /// `torus N M A R`: the bracket of the closed braid on two strands with N positive crossings, 1 to 256.
     Torus { crossings: u32, sweep: Sweep },
 }
@@ -95,6 +98,7 @@ fn read_task(command: Command, numbers: &[u64], arguments: Arguments) -> Result<
     match command {
         Command::Bracket => Ok(Task::Bracket { sweep }),
         Command::Colored => Ok(Task::Colored { colours, sweep }),
+        Command::Net => Ok(Task::Net { colours, sweep }),
         Command::Torus => match numbers[0] {
             crossings @ 1..=256 => Ok(Task::Torus {
                 crossings: crossings as u32,

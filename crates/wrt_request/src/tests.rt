@@ -90,7 +90,9 @@ fn parts(alloc: Global, words: Words) -> Result<Parts<'static>, AllocError> {
 /// The crossings of the torus link that is asked for, and the options of the sweep.
 fn asked(task: &Task) -> (Option<u32>, &Sweep) {
     match task {
-        Task::Bracket { sweep } | Task::Colored { sweep, .. } => (None, sweep),
+        Task::Bracket { sweep } | Task::Colored { sweep, .. } | Task::Net { sweep, .. } => {
+            (None, sweep)
+        },
         Task::Torus { crossings, sweep } => (Some(*crossings), sweep),
     }
 }
