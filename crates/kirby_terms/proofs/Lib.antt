@@ -1,0 +1,4 @@
+pub mod ColourLists
+pub mod FormColours
+pub mod Sums
+pub mod Omegas

@@ -1,0 +1,8 @@
+//! What one colouring of a framed diagram gives to its Kirby sum, and how that sum is normalised (Lickorish, ch. 13).
+#![tactic(auto)]
+
+mod colours;
+mod normalisation;
+
+pub use colours::{colour_count, colouring, colouring_of};
+pub use normalisation::{NormFault, normalise, omega};
