@@ -5,6 +5,8 @@ use Rattle.std.proofs.Math.ListN.{get_or-append}
 use Rattle.std.proofs.Math.Seq.{get_or-append_seam}
 use Rattle.std.proofs.lemmas.Nat.{div-add-mod', div_below, mod_below}
 use Rattle.std.proofs.lemmas.List.{get_or-map}
+use Rattle.std.specs.List.{All}
+use Rattle.std.proofs.lemmas.List.Elements.{All-nil, All-push, All-get_or}
 use Rattle.coloured_values.specs.Surgery.{colour_lists}
 
 -- ---- lists of blocks of one length
@@ -109,3 +111,16 @@ last_turn colours s n k i l some h e =
     ap (λ j. slice_index (get_or (colour_lists colours j) k []) i) e
     ∙ colour_last colours i k (omega (arith, l, some)) more
     ∙ ap (λ t. slice_index colours (k % t)) l
+
+-- EACH COLOUR OF A LIST IS ONE OF THE COLOURS
+pub all_colours : (P : ℕ → Type 0) (colours : List ℕ) (n k : ℕ) → 0 < length colours → k < length colours ^ n → All P colours → All P (get_or (colour_lists colours n) k [])
+all_colours P colours zero k some h each = let z = pow-zero (length colours) in only k (omega (arith, h, z))
+  where
+    only : (k : ℕ) → k < 1 → All P (get_or (colour_lists colours zero) k [])
+    only zero b = All-nil P
+    only (suc k) b = absurd (omega (arith, b))
+all_colours P colours (suc n) k some h each =
+    subst (All P) (sym (list_more colours n k some h))
+    (All-push P (get_or (colour_lists colours n) (k / length colours) []) (slice_index colours (k % length colours))
+    (all_colours P colours n (k / length colours) some (quotient_below (length colours) n k some h) each)
+    (All-get_or P colours (k % length colours) 0 (mod_below k (length colours) some) each))

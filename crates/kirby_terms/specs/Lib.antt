@@ -1,2 +1,3 @@
 pub mod Colourings
 pub mod Normalisations
+pub mod Terms

@@ -2,8 +2,9 @@
 //! fastest.
 
 ghost use Rattle.std.specs.Prelude.{◌≡◌, ◌-◌, ◌^◌, ◌<◌, ◌≤◌, ℕ, List, length, slice_index, IfOk};
-ghost use Rattle.root_quantum.specs.Colours.{colours_of, form_colours};
-ghost use Rattle.root_quantum.specs.declared.form.Form.TheVariants.{All};
+ghost use Rattle.std.specs.List.{All};
+ghost use Rattle.root_quantum.specs.Colours.{colours_of, form_colours, greatest_colour};
+ghost use Rattle.root_quantum.specs.declared.form.Form.TheVariants as forms;
 ghost use Rattle.kirby_terms.specs.Colourings.{colouring_at, colour_in};
 
 use root_quantum::{Form, Params};
@@ -36,7 +37,7 @@ pub fn colouring(components: u32, r: u32, index: u64, component: u32) -> u32
     requires lowest { 1 ≤ index }
     requires highest { index ≤ (r - 1) ^ components }
     requires few { (r - 1) ^ components ≤ 65536 }
-    ensures { result ≡ colour_in (colours_of All r) components index component }
+    ensures { result ≡ colour_in (colours_of forms.All r) components index component }
 {
     place_of(u64::from(r - 1), components, index, component) as u32
 }
@@ -85,7 +86,9 @@ pub(crate) fn colours_in(alloc: Global, params: &Params, components: u32, index:
     requires lowest { 1 ≤ index }
     requires highest { index ≤ length (form_colours params.now) ^ components }
     requires few { length (form_colours params.now) ^ components ≤ 65536 }
-    ensures { IfOk result (λ colours. colours.items ≡ colouring_at (form_colours params.now) components index) }
+    ensures colours { IfOk result (λ colours. colours.items ≡ colouring_at (form_colours params.now) components index) }
+    ensures count { IfOk result (λ colours. length colours.items ≡ components) }
+    ensures few { IfOk result (λ colours. All (λ n. n ≤ greatest_colour params.now) colours.items) }
 {
     let mut colours = Vec::new(alloc);
     for component in 0..components {

@@ -1,8 +1,10 @@
 -- Each turn puts the next component's colour behind the others.
-use Rattle.std.proofs.Common.{◌≡◌, ℕ, suc, ◌+◌, ◌-◌, ◌^◌, ◌<◌, ◌≤◌, List, [], ◌∷◌, ◌++◌, length, take, slice_index, take-suc, take_all, add-one, sym, ap, ◌∙◌, arith}
-use Rattle.root_quantum.specs.Colours.{form_colours}
+use Rattle.std.proofs.Common.{◌≡◌, ℕ, suc, ◌+◌, ◌-◌, ◌^◌, ◌<◌, ◌≤◌, List, [], ◌∷◌, ◌++◌, length, take, slice_index, take-suc, take_all, add-one, sym, ap, subst, ◌∙◌, arith}
+use Rattle.root_quantum.specs.Colours.{form_colours, greatest_colour}
+use Rattle.root_quantum.proofs.GreatestColours.{greatest_of_colours_law}
+use Rattle.std.specs.List.{All}
 use Rattle.kirby_terms.specs.Colourings.{colouring_at}
-use Rattle.kirby_terms.proofs.ColourLists.{list_length}
+use Rattle.kirby_terms.proofs.ColourLists.{list_length, all_colours}
 use Rattle.kirby_terms.proofs.FormColours.{some_colours}
 use Rattle.kirby_terms.proofs.colours.colours_in.Goals as goal
 
@@ -20,9 +22,25 @@ loop-component-preserved c =
     let long = list_length (form_colours p) c.args.components (c.args.index - 1) (some_colours p) below in
     c.in_ok-push.ensures.items ∙ one_more c.loop-component.colours.items list c.loop-component.component c.colouring_of.result (omega (arith, long, c.loop-component-test.true)) c.loop-component.invariant c.colouring_of.ensures.colour
 
-pub returns : goal.returns
-returns c =
+pub returns-clause-colours : goal.returns-clause-colours
+returns-clause-colours c =
     let p = c.args.params.now in
     let below : c.args.index - 1 < length (form_colours p) ^ c.args.components = omega (arith, c.requires.lowest, c.requires.highest) in
     let long = list_length (form_colours p) c.args.components (c.args.index - 1) (some_colours p) below in
     c.loop-component.invariant ∙ take_all c.loop-component.component (colouring_at (form_colours p) c.args.components c.args.index) (omega (arith, long, c.loop-component-test.false))
+
+pub returns-clause-count : goal.returns-clause-count
+returns-clause-count c =
+    let p = c.args.params.now in
+    let below : c.args.index - 1 < length (form_colours p) ^ c.args.components = omega (arith, c.requires.lowest, c.requires.highest) in
+    let long = list_length (form_colours p) c.args.components (c.args.index - 1) (some_colours p) below in
+    ap length (c.loop-component.invariant ∙ take_all c.loop-component.component (colouring_at (form_colours p) c.args.components c.args.index) (omega (arith, long, c.loop-component-test.false))) ∙ long
+
+pub returns-clause-few : goal.returns-clause-few
+returns-clause-few c =
+    let p = c.args.params.now in
+    let below : c.args.index - 1 < length (form_colours p) ^ c.args.components = omega (arith, c.requires.lowest, c.requires.highest) in
+    let long = list_length (form_colours p) c.args.components (c.args.index - 1) (some_colours p) below in
+    let P : ℕ → Type 0 = λ n. n ≤ greatest_colour p in
+    let each = all_colours P (form_colours p) c.args.components (c.args.index - 1) (some_colours p) below (greatest_of_colours_law p).1 in
+    subst (All P) (sym (c.loop-component.invariant ∙ take_all c.loop-component.component (colouring_at (form_colours p) c.args.components c.args.index) (omega (arith, long, c.loop-component-test.false)))) each
