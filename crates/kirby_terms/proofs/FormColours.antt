@@ -39,6 +39,7 @@ even_few p k e h = let count = count_of_even p e in let high = p.meets.level.1 i
 -- there is a colour
 pub some_colours : (p : Parameters) → 0 < length (form_colours p)
 some_colours p =
-    elim p.form as (λ f. p.form ≡ f → 0 < length (form_colours p))
-    [ Full ↦ λ e. (let count = count_of_full p e in let low = p.meets.level.0 in omega (arith, count, low))
-    | Even ↦ λ e. (let count = count_of_even p e in let low = p.meets.level.0 in omega (arith, count, low)) ] refl
+    elim p.form as (λ f. p.form ≡ f → 0 < length (form_colours p)) [
+      | Full ↦ λ e. (let count = count_of_full p e in let low = p.meets.level.0 in omega (arith, count, low))
+      | Even ↦ λ e. (let count = count_of_even p e in let low = p.meets.level.0 in omega (arith, count, low))
+    ] refl

@@ -25,9 +25,10 @@ tried : (m x y limit : ℕ) → y < limit → IsInverse m x y → (IsInverse m x
 tried m x y zero b e = absurd (omega arith)
 tried m x y (suc z) b e =
     elim (residue m (pos x *ℤ pos z) == 1)
-    as (λ t. (residue m (pos x *ℤ pos z) == 1) ≡ t → (residue m (pos x *ℤ pos (if t then z else inverse_below m x z)) ≡ 1) × ((if t then z else inverse_below m x z) < suc z))
-    [ true ↦ λ t. (let is : residue m (pos x *ℤ pos z) ≡ 1 = grind (arith, nat_tests, t) in (is, omega arith))
-    | false ↦ λ t. (let before = tried m x y z (not_last m x y z b e t) e in (before.0, (let l = before.1 in omega (arith, l)))) ] refl
+    as (λ t. (residue m (pos x *ℤ pos z) == 1) ≡ t → (residue m (pos x *ℤ pos (if t then z else inverse_below m x z)) ≡ 1) × ((if t then z else inverse_below m x z) < suc z)) [
+      | true ↦ λ t. (let is : residue m (pos x *ℤ pos z) ≡ 1 = grind (arith, nat_tests, t) in (is, omega arith))
+      | false ↦ λ t. (let before = tried m x y z (not_last m x y z b e t) e in (before.0, (let l = before.1 in omega (arith, l))))
+    ] refl
   where
     not_last : (m x y z : ℕ) → y < suc z → residue m (pos x *ℤ pos y) ≡ 1 → (residue m (pos x *ℤ pos z) == 1) ≡ false → y < z
     not_last m x y z b e t = let same = λ (s : y ≡ z). ap (λ k. residue m (pos x *ℤ pos k)) s in grind (arith, nat_tests, b, e, t, same)

@@ -59,7 +59,9 @@ fn factor(params: &Params, framed: &Framed, component: u32, n: u32) -> u64
     ensures value { result ≡ residue params.now.modulus (pos (delta params.now n) *ℤ pos (twist params.now n (framing_of framed.now component -ℤ writhe framed.now.items component))) }
     ensures below { result < params.now.modulus }
 {
-    params.ring().mul(params.delta(n), params.twist(n, curls(framed, component)))
+    params
+        .ring()
+        .mul(params.delta(n), params.twist(n, curls(framed, component)))
 }
 
 /// The product of these factors over all components.

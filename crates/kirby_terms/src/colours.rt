@@ -82,7 +82,12 @@ pub fn colouring_of(params: &Params, components: u32, index: u64, component: u32
 }
 
 /// The colours of the colouring with that number, that of component 1 first.
-pub(crate) fn colours_in(alloc: Global, params: &Params, components: u32, index: u64) -> Result<Vec<u32>, AllocError>
+pub(crate) fn colours_in(
+    alloc: Global,
+    params: &Params,
+    components: u32,
+    index: u64,
+) -> Result<Vec<u32>, AllocError>
     requires lowest { 1 ≤ index }
     requires highest { index ≤ length (form_colours params.now) ^ components }
     requires few { length (form_colours params.now) ^ components ≤ 65536 }

@@ -29,5 +29,5 @@ returns-in-Err-clause-missing c = (
     counted = omega (arith, c.if-count-eq0.false);
     divisor = subst₂ (λ x m. IsGcd x m c.in-Err.field-0.gcd) c.omega.ensures.value c.ring.ensures c.in-Err.ensures.common;
     shared = λ one. (let wrong : false ≡ true = c.in-Err.ensures.coprime.1 (subst (λ (g : ℕ). IsGcd c.omega.result c.ring.result.now g) one c.in-Err.ensures.common) in cc);
-  }
+  },
 )
