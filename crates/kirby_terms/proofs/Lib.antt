@@ -1,0 +1,8 @@
+pub mod ColourLists
+pub mod FormColours
+pub mod Sums
+pub mod Omegas
+pub mod NoFaults
+pub mod Weights
+pub mod Writhes
+mod Examples

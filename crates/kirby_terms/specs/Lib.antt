@@ -1,0 +1,3 @@
+pub mod Colourings
+pub mod Normalisations
+pub mod Terms

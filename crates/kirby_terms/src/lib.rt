@@ -1,0 +1,13 @@
+//! What one colouring of a framed diagram gives to its Kirby sum, and how that sum is normalised (Lickorish, ch. 13).
+#![tactic(auto)]
+
+mod colour_term;
+mod colours;
+mod normalisation;
+
+pub use colour_term::term;
+pub use colours::{colour_count, colouring, colouring_of};
+pub use normalisation::{NormFault, normalise, omega};
+
+#[cfg(test)]
+mod tests;
