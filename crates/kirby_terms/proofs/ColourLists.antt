@@ -1,5 +1,5 @@
 -- The list of n + 1 colours with a number has the last colour by the remainder of that number, and the colours before by the quotient.
-use Rattle.std.proofs.Common.{◌≡◌, ℕ, zero, suc, ◌+◌, ◌-◌, ◌*◌, ◌/◌, ◌%◌, ◌^◌, ◌<◌, ◌≤◌, List, [], ◌∷◌, ◌++◌, length, map, flat_map, get_or, slice_index, refl, sym, ap, subst, subst₂, ◌∙◌, arith, length-append, get_or-append-add}
+use Rattle.std.proofs.Common.{◌≡◌, ℕ, zero, suc, ◌+◌, ◌*◌, ◌/◌, ◌%◌, ◌^◌, ◌<◌, List, [], ◌∷◌, ◌++◌, length, map, flat_map, get_or, slice_index, refl, sym, ap, subst, subst₂, ◌∙◌, arith, length-append, get_or-append-add}
 use Rattle.std.proofs.Math.Nat.{suc-mul, zero-mul, pow-suc, pow-zero}
 use Rattle.std.proofs.Math.ListN.{get_or-append}
 use Rattle.std.proofs.Math.Seq.{get_or-append_seam}

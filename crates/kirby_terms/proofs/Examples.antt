@@ -3,7 +3,7 @@ use Rattle.std.proofs.Common.{◌≡◌, ℕ, List, None, [], ◌∷◌, refl}
 use Rattle.ring_identities.specs.Residues.{residue}
 use Rattle.ring_identities.specs.Powers.{power, signed_power, order_up_to}
 use Rattle.root_quantum.specs.Parameters.{Parameters}
-use Rattle.root_quantum.specs.declared.form.Form.TheVariants.{All, Even}
+use Rattle.root_quantum.specs.declared.form.Form.TheVariants.{All}
 use Rattle.root_quantum.specs.Refusals.{refusal}
 use Rattle.root_quantum.specs.QuantumNumbers.{loop_value, inverse_root, quantum_number, delta, twist, twist_factor}
 use Rattle.root_quantum.proofs.RefusalProofs.{accepted_law}

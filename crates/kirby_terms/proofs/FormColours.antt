@@ -1,9 +1,8 @@
 -- The colours of the two forms, by place.
-use Rattle.std.proofs.Common.{◌≡◌, ℕ, ◌+◌, ◌-◌, ◌*◌, ◌/◌, ◌<◌, ◌≤◌, List, length, slice_index, refl, sym, ap, subst, ◌∙◌, arith}
+use Rattle.std.proofs.Common.{◌≡◌, ℕ, ◌-◌, ◌*◌, ◌/◌, ◌<◌, ◌≤◌, length, slice_index, refl, ap, ◌∙◌, arith}
 use Rattle.std.proofs.lemmas.List.FromFn.{length-range_with_len, get_or-range_with_len, length-map-range_with_len, get_or-map-range_with_len}
 use Rattle.root_quantum.specs.Parameters.{Parameters}
 use Rattle.root_quantum.specs.Colours.{colours_of, form_colours}
-use Rattle.root_quantum.specs.declared.form.Form.{Form}
 use Rattle.root_quantum.specs.declared.form.Form.TheVariants.{All as Full, Even}
 
 pub full_count : (r : ℕ) → length (colours_of Full r) ≡ r - 1

@@ -1,5 +1,5 @@
 -- Colours of the form that have projectors are never refused.
-use Rattle.std.proofs.Common.{◌≡◌, ◌≢◌, ◌⊎◌, ℕ, ◌<◌, ◌≤◌, ◌==◌, max, true, false, nat_lt, if◌then◌else◌, Option, Some, None, List, [], ◌∷◌, length, option_map, refl, sym, ap, ◌∙◌, arith, inl, inr, All}
+use Rattle.std.proofs.Common.{◌≡◌, ◌≢◌, ◌⊎◌, ℕ, ◌<◌, ◌≤◌, false, nat_lt, if◌then◌else◌, Some, None, List, [], ◌∷◌, length, option_map, refl, sym, ap, ◌∙◌, arith, inl, inr, All}
 use Rattle.std.proofs.lemmas.Bool.{eq-eqb}
 use Rattle.std.proofs.lemmas.Bool.Decides.{nat_tests}
 use Rattle.std.proofs.lemmas.Nat.Gcd.{same_from_IsGcd}
@@ -9,7 +9,7 @@ use Rattle.root_quantum.specs.Colours.{greatest_colour}
 use Rattle.root_quantum.specs.QuantumNumbers.{delta}
 use Rattle.planar_check.specs.Components.{greatest}
 use Rattle.planar_check.specs.Framings.{FramedDiagram}
-use Rattle.wenzl_table.specs.Inverses.{AreCoprime, IsFirstCommon}
+use Rattle.wenzl_table.specs.Inverses.{IsFirstCommon}
 use Rattle.coloured_values.specs.Surgery.{component_count}
 use Rattle.skein_network.specs.declared.fault.CableFault.{CableFault}
 use Rattle.skein_network.specs.declared.fault.CableFault.TheVariants.{ColourCount, ColourTooLarge, Unequal, NotAdmissible, NoInverse, Memory}

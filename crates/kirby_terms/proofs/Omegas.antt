@@ -1,13 +1,11 @@
 -- The inverse of an Omega that is computed is the one of the definition, and an Omega has an inverse exactly where it shares no factor with m.
-use Rattle.std.proofs.Common.{List, length, take, take_all, ◌≡◌, ◌≢◌, ℕ, zero, suc, ◌%◌, ◌<◌, ◌≤◌, ◌==◌, ℤ, pos, negsuc, ◌*ℤ◌, true, false, if◌then◌else◌, refl, sym, ap, ap₂, subst, ◌∙◌, arith, mod-lt}
+use Rattle.std.proofs.Common.{length, take, take_all, ◌≡◌, ℕ, zero, suc, ◌<◌, ◌≤◌, ◌==◌, pos, ◌*ℤ◌, true, false, if◌then◌else◌, refl, sym, ap, ap₂, ◌∙◌, arith}
 use Rattle.std.proofs.lemmas.Bool.Decides.{nat_tests}
 use Rattle.std.specs.Int.{IsGcd}
 use Rattle.std.proofs.lemmas.Nat.Gcd.{same_from_IsGcd}
-use Rattle.std.proofs.Common.{eqb→eq}
 use Rattle.ring_identities.specs.Residues.{residue, Congruent}
 use Rattle.ring_identities.specs.Powers.{power, IsInverse}
 use Rattle.ring_identities.proofs.Congruences.{congruent_eq, congruent_sym, congruent_trans, congruent_times, residue_congruent, same_residue, residue_small}
-use Rattle.ring_identities.proofs.PowerLemmas.{congruent_power, power_of_one}
 use Rattle.ring_identities.proofs.Unities.{inverse_unique}
 use Rattle.strand_algebra.specs.Projectors.{inverse_below, inverse_of}
 use Rattle.root_quantum.specs.Parameters.{Parameters}

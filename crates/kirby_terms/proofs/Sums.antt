@@ -1,5 +1,5 @@
 -- A sum over a list grows by its next element.
-use Rattle.std.proofs.Common.{◌≡◌, ℕ, suc, ◌+◌, ◌<◌, ℤ, pos, ◌+ℤ◌, List, [], ◌∷◌, ◌++◌, length, take, get_or, take-suc, refl, sym, ap, ◌∙◌, arith, add-one}
+use Rattle.std.proofs.Common.{◌≡◌, ℕ, ◌+◌, ◌<◌, ℤ, pos, ◌+ℤ◌, List, [], ◌∷◌, ◌++◌, length, take, get_or, take-suc, sym, ap, ◌∙◌, add-one}
 use Rattle.ring_identities.specs.Residues.{residue, Congruent}
 use Rattle.ring_identities.proofs.Congruences.{congruent_eq, congruent_sym, congruent_trans, congruent_plus, residue_congruent, same_residue, residue_small}
 use Rattle.ring_identities.proofs.Integers.{zero_plus, plus_zero, plus_assoc}

@@ -1,6 +1,6 @@
 -- The product of the factors of all components is the product of the Delta times the twists, and with the coloured value it is the
 -- colouring's term.
-use Rattle.std.proofs.Common.{◌≡◌, ℕ, zero, suc, ◌+◌, ◌-◌, ◌<◌, ◌≤◌, ℤ, pos, ◌*ℤ◌, ◌-ℤ◌, List, [], ◌∷◌, length, drop, get_or, drop-cons, refl, sym, ap, ap₂, subst, ◌∙◌, arith, add-one, mod-lt}
+use Rattle.std.proofs.Common.{◌≡◌, ℕ, ◌+◌, ◌<◌, ◌≤◌, ℤ, pos, ◌*ℤ◌, ◌-ℤ◌, List, [], ◌∷◌, length, drop, get_or, drop-cons, refl, sym, ap, ap₂, subst, ◌∙◌, arith, add-one, mod-lt}
 use Rattle.std.proofs.lemmas.List.{drop_all}
 use Rattle.ring_identities.specs.Residues.{residue, Congruent}
 use Rattle.ring_identities.proofs.Congruences.{congruent_refl, congruent_eq, congruent_sym, congruent_trans, congruent_times, residue_congruent, same_residue, residue_small}
@@ -16,7 +16,7 @@ use Rattle.root_quantum.specs.QuantumNumbers.{loop_value, delta, twist}
 use Rattle.pd_reader.specs.declared.item.Item.{Item}
 use Rattle.planar_check.specs.Framings.{FramedDiagram}
 use Rattle.planar_check.specs.Signs.{writhe}
-use Rattle.coloured_values.specs.Coloured.{cabled, coloured, twists, framed}
+use Rattle.coloured_values.specs.Coloured.{coloured, twists, framed}
 use Rattle.coloured_values.specs.Surgery.{deltas}
 use Rattle.kirby_terms.specs.Terms.{kirby_term, network_of, chosen_colours}
 

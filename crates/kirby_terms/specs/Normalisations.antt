@@ -7,7 +7,7 @@
 --     IsRefused p plus minus fault     the first sign, plus before minus, of which an inverse is missing
 --
 -- At 41, 2, 5 Omega+ is 23 and Omega- is 5, and the sum 30 of the unknot framed 3 has the value 12 (proofs/Examples.antt).
-use Rattle.std.specs.Prelude.{◌≡◌, ◌≢◌, ℕ, ◌<◌, ℤ, pos, ◌*ℤ◌}
+use Rattle.std.specs.Prelude.{◌≢◌, ℕ, ◌<◌, ℤ, pos, ◌*ℤ◌}
 use Rattle.std.specs.Int.{IsGcd}
 use Rattle.ring_identities.specs.Residues.{residue}
 use Rattle.ring_identities.specs.Powers.{power}

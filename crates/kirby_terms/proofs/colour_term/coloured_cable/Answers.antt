@@ -1,5 +1,5 @@
 -- The colours are the form's, and have projectors.
-use Rattle.std.proofs.Common.{◌≡◌, ◌⊎◌, length, sym, ap, subst, ◌∙◌, None, Some, Err}
+use Rattle.std.proofs.Common.{◌≡◌, ◌⊎◌, length, subst, None, Some}
 use Rattle.planar_check.specs.Components.{greatest, least_labels}
 use Rattle.skein_network.specs.declared.fault.CableFault.TheVariants.{Memory}
 use Rattle.skein_network.specs.Refusals.{colour_refusal, IsNoInverse}

@@ -1,10 +1,9 @@
 -- The network is that of the colouring with the number.
-use Rattle.std.proofs.Common.{◌≡◌, ◌⊎◌, ℕ, ◌+◌, ◌<◌, ◌≤◌, List, length, Ok, Err, pos, ◌*ℤ◌, sym, ap, ap₂, subst, ◌∙◌, arith}
+use Rattle.std.proofs.Common.{◌≡◌, ◌⊎◌, ℕ, ◌+◌, ◌≤◌, List, Ok, Err, ◌*ℤ◌, ap, ap₂, subst, ◌∙◌, arith}
 use Rattle.std.specs.List.{Contains}
 use Rattle.state_sums.specs.Networks.{Network}
 use Rattle.state_sums.specs.StateSums.{value}
 use Rattle.ring_identities.specs.Residues.{residue}
-use Rattle.root_quantum.specs.Parameters.{Parameters}
 use Rattle.root_quantum.specs.QuantumNumbers.{loop_value}
 use Rattle.coloured_values.specs.Coloured.{twists}
 use Rattle.coloured_values.specs.Surgery.{deltas}

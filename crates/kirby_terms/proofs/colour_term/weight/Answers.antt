@@ -1,5 +1,5 @@
 -- A turn moves one component's factor.
-use Rattle.std.proofs.Common.{◌≡◌, ℕ, ◌+◌, ◌-◌, ◌<◌, ◌≤◌, length, get_or, pos, ◌*ℤ◌, ◌-ℤ◌, sym, ap, ◌∙◌, arith}
+use Rattle.std.proofs.Common.{◌≡◌, ◌+◌, ◌-◌, ◌<◌, length, get_or, pos, ◌*ℤ◌, ◌-ℤ◌, ap, ◌∙◌, arith}
 use Rattle.ring_identities.specs.Residues.{residue}
 use Rattle.root_quantum.specs.QuantumNumbers.{delta, twist}
 use Rattle.planar_check.specs.Components.{least_labels}

@@ -1,5 +1,5 @@
 -- A diagram has at most 256 items.
-use Rattle.std.proofs.Common.{◌≡◌, ◌≤◌, ℤ, rules, subst, sym, ap, ◌∙◌, unsigned_abs, FitsSigned}
+use Rattle.std.proofs.Common.{◌≤◌, ℤ, rules, subst, sym, ◌∙◌, unsigned_abs, FitsSigned}
 use Rattle.std.specs.Int.{w64}
 use Rattle.std.proofs.lemmas.Int.{to_z-of_z}
 use Rattle.pd_reader.specs.Diagrams.{IsDiagram}

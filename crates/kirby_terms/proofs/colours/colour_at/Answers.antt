@@ -1,5 +1,5 @@
 -- The colour at a place is the place, and in the even form twice the place.
-use Rattle.std.proofs.Common.{◌≡◌, ◌*◌, ◌≤◌, sym, ◌∙◌, arith}
+use Rattle.std.proofs.Common.{sym, ◌∙◌, arith}
 use Rattle.kirby_terms.proofs.FormColours.{colour_of_full, colour_of_even, full_few, even_few}
 use Rattle.kirby_terms.proofs.colours.colour_at.Goals as goal
 

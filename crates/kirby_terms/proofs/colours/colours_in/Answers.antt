@@ -1,5 +1,5 @@
 -- Each turn puts the next component's colour behind the others.
-use Rattle.std.proofs.Common.{◌≡◌, ℕ, suc, ◌+◌, ◌-◌, ◌^◌, ◌<◌, ◌≤◌, List, [], ◌∷◌, ◌++◌, length, take, slice_index, take-suc, take_all, add-one, sym, ap, subst, ◌∙◌, arith}
+use Rattle.std.proofs.Common.{◌≡◌, ℕ, ◌+◌, ◌-◌, ◌^◌, ◌<◌, ◌≤◌, List, [], ◌∷◌, ◌++◌, length, take, slice_index, take-suc, take_all, add-one, sym, ap, subst, ◌∙◌, arith}
 use Rattle.root_quantum.specs.Colours.{form_colours, greatest_colour}
 use Rattle.root_quantum.proofs.GreatestColours.{greatest_of_colours_law}
 use Rattle.std.specs.List.{All}

@@ -1,5 +1,5 @@
 -- A turn leaves out the last component, whose colour is that of the remainder.
-use Rattle.std.proofs.Common.{◌≡◌, ℕ, ◌+◌, ◌-◌, ◌^◌, ◌<◌, suc, List, [], length, get_or, slice_index, sym, ap, subst, ◌∙◌, arith}
+use Rattle.std.proofs.Common.{◌≡◌, ℕ, ◌+◌, ◌-◌, ◌^◌, ◌<◌, suc, [], get_or, slice_index, ap, subst, ◌∙◌, arith}
 use Rattle.coloured_values.specs.Surgery.{colour_lists}
 use Rattle.kirby_terms.proofs.ColourLists.{quotient_below, one_turn, last_turn}
 use Rattle.kirby_terms.proofs.colours.place_of.Goals as goal

@@ -1,9 +1,8 @@
 -- An Omega has an inverse exactly where it shares no factor with the modulus.
-use Rattle.std.proofs.Common.{◌≡◌, ℕ, ◌<◌, pos, true, false, refl, ap, ap₂, subst, subst₂, ◌∙◌, arith}
+use Rattle.std.proofs.Common.{◌≡◌, ℕ, ◌<◌, pos, true, false, refl, ap₂, subst, subst₂, ◌∙◌, arith}
 use Rattle.std.specs.Int.{IsGcd}
 use Rattle.ring_identities.specs.Residues.{residue}
 use Rattle.ring_identities.specs.Powers.{power, IsInverse}
-use Rattle.kirby_terms.specs.Normalisations.{omega_of}
 use Rattle.kirby_terms.proofs.Omegas.{no_power, powers_are, not_missing}
 use Rattle.kirby_terms.proofs.normalisation.inverse_power.Goals as goal
 

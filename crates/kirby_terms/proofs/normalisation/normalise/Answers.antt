@@ -1,7 +1,6 @@
 -- The value is the definition's, and of a Kirby sum it is the surgery value.
-use Rattle.std.proofs.Common.{◌≡◌, ℕ, pos, ◌*ℤ◌, ap, ◌∙◌}
+use Rattle.std.proofs.Common.{pos, ◌*ℤ◌, ap, ◌∙◌}
 use Rattle.ring_identities.specs.Residues.{residue}
-use Rattle.kirby_terms.specs.Normalisations.{normalised}
 use Rattle.kirby_terms.proofs.Omegas.{value_is, surgery_is}
 use Rattle.kirby_terms.proofs.normalisation.normalise.Goals as goal
 

@@ -1,5 +1,5 @@
 -- A turn adds the next colour's term.
-use Rattle.std.proofs.Common.{◌≡◌, ℕ, ◌<◌, pos, ◌+ℤ◌, ap, ◌∙◌, arith}
+use Rattle.std.proofs.Common.{◌<◌, pos, ◌+ℤ◌, ap, ◌∙◌, arith}
 use Rattle.ring_identities.specs.Residues.{residue}
 use Rattle.root_quantum.specs.Colours.{form_colours}
 use Rattle.kirby_terms.specs.Normalisations.{omega_term}
