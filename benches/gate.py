@@ -1,9 +1,9 @@
 #!/usr/bin/env python3
 """Measures what the gate costs: runs `rt ci` at the top of the repository and writes docs/gate.md.
 
-Each second the processor time of every prover that works below this run is read from /proc, by its crate and by what it does: the
+Each second the processor time of every prover in this run's session is read from /proc, by its crate and by what it does: the
 crate's proof, the proof of its tests, or a must-fail edit. A prover's last second may be missed. Run it from the top of a clean
-clone, with nothing else running:
+clone; what else runs then costs wall time, and some processor time by the shared memory:
 
     python3 benches/gate.py
 """
@@ -18,13 +18,13 @@ TICK = os.sysconf("SC_CLK_TCK")
 KINDS = ("proof", "tests", "edits")
 
 
-def read_prover(pid):
-    """The key, crate, kind and processor seconds of a prover, or None for another process."""
+def read_prover(pid, session):
+    """The key, crate, kind and processor seconds of a prover of that session, or None for another process."""
     try:
         with open(f"/proc/{pid}/stat") as it:
             text = it.read()
         name, rest = text[text.index("(") + 1 : text.rindex(")")], text[text.rindex(")") + 2 :].split()
-        if not name.startswith("rattle"):
+        if not name.startswith("rattle") or int(rest[3]) != session:
             return None
         with open(f"/proc/{pid}/cmdline", "rb") as it:
             words = it.read().decode(errors="replace").split("\0")
@@ -36,9 +36,9 @@ def read_prover(pid):
     return (pid, rest[19]), crate, kind, (int(rest[11]) + int(rest[12])) / TICK
 
 
-def sample(seen):
+def sample(seen, session):
     for pid in os.listdir("/proc"):
-        found = read_prover(pid) if pid.isdigit() else None
+        found = read_prover(pid, session) if pid.isdigit() else None
         if found:
             key, crate, kind, seconds = found
             seen[key] = crate, kind, seconds
@@ -62,9 +62,9 @@ def read_crates():
 def main():
     seen, began = {}, time.time()
     with open("gate.log", "w") as log:
-        gate = subprocess.Popen(["rt", "ci"], stdout=log, stderr=subprocess.STDOUT)
+        gate = subprocess.Popen(["rt", "ci"], stdout=log, stderr=subprocess.STDOUT, start_new_session=True)
         while gate.poll() is None:
-            sample(seen)
+            sample(seen, gate.pid)
             time.sleep(1)
     cost = Counter()
     for crate, kind, seconds in seen.values():
