@@ -5,4 +5,5 @@ pub mod Omegas
 pub mod NoFaults
 pub mod Weights
 pub mod Writhes
+pub mod TurnBounds
 mod Examples

@@ -7,6 +7,7 @@ ghost use Rattle.ring_identities.specs.Residues.{residue};
 ghost use Rattle.root_quantum.specs.Colours.{greatest_colour};
 ghost use Rattle.root_quantum.specs.QuantumNumbers.{delta, twist};
 ghost use Rattle.state_sums.specs.Networks.{WeightsBelow};
+ghost use Rattle.arc_pairing.specs.Nodes.{IsShortNode};
 ghost use Rattle.planar_check.specs.Components.{least_labels};
 ghost use Rattle.planar_check.specs.Framings.{framing_of};
 ghost use Rattle.planar_check.specs.Signs.{writhe};
@@ -21,7 +22,7 @@ ghost use Rattle.coloured_values.specs.Surgery.{deltas, component_count};
 ghost use Rattle.kirby_terms.specs.Terms.{network_of, chosen_colours, term_at, network_at, colouring_total, HasInverses};
 
 use crate::colours::colours_in;
-use arc_pairing::{Network, Turns};
+use arc_pairing::{Network, Node, Turns};
 use frontier_sweep::{Choose, Chooser, SweepFault, contract};
 use planar_check::{Framed, Planar};
 use root_quantum::Params;
@@ -109,6 +110,15 @@ fn coloured_cable(
     }
 }
 
+/// What each of the nodes keeps, told by the contract of its ends.
+fn short_nodes(nodes: &[Node])
+    ensures { All IsShortNode nodes.now }
+{
+    for node in nodes {
+        let _ends = node.ends();
+    }
+}
+
 /// What the colouring with that number gives to the Kirby sum of a framed diagram, as a residue: the product of the `Delta` of its
 /// colours times the framed value. The projectors come from the table, whose notes are given.
 ///
@@ -137,6 +147,7 @@ pub fn term<C: Choose>(
     ensures swept { OnOk result (IsSwept (C.answers chooser.now) (network_at table.now.params framed.now index) turns.old turns.new) }
     ensures stopped { IfErr result (IsStopped (C.answers chooser.now) (network_at table.now.params framed.now index)) }
     ensures stays { OnErr result (turns.new ≡ turns.old) }
+    ensures few { OnOk result (turns.new ≤ turns.old + 2 ^ 54) }
     ensures turns { (next : View → ℕ) → IsNext next (C.answers chooser.now) → OnOk result ((count : ℕ)
         × (sweep next (network_at table.now.params framed.now index) ≡ Ok count)
         × (turns.new ≡ turns.old + count)) }
@@ -157,6 +168,7 @@ pub fn term<C: Choose>(
         Ok(network) => network,
         Err(AllocError) => return Err(SweepFault::Memory),
     };
+    short_nodes(network.nodes());
     let value = match contract(alloc, params, &network, chooser, turns) {
         Ok(value) => value,
         Err(fault) => return Err(fault),

@@ -1,6 +1,7 @@
 -- The network is that of the colouring with the number.
 use Rattle.std.proofs.Common.{◌≡◌, ◌⊎◌, ℕ, ◌+◌, ◌≤◌, List, Ok, Err, ◌*ℤ◌, ap, ap₂, subst, ◌∙◌, arith}
-use Rattle.std.specs.List.{Contains}
+use Rattle.std.specs.List.{All, Contains}
+use Rattle.arc_pairing.specs.Nodes.{IsShortNode}
 use Rattle.state_sums.specs.Networks.{Network}
 use Rattle.state_sums.specs.StateSums.{value}
 use Rattle.ring_identities.specs.Residues.{residue}
@@ -12,6 +13,7 @@ use Rattle.frontier_sweep.specs.Sweeps.{IsSwept, IsStopped}
 use Rattle.frontier_sweep.specs.declared.fault.SweepFault.TheVariants.{Memory}
 use Rattle.wenzl_table.specs.Tables.{Knows}
 use Rattle.kirby_terms.specs.Terms.{network_of, chosen_colours, network_at}
+use Rattle.kirby_terms.proofs.TurnBounds.{swept_few}
 use Rattle.kirby_terms.proofs.Weights.{value_below, chosen, contracted, term_is}
 use Rattle.kirby_terms.proofs.colour_term.term.Goals as goal
 
@@ -87,3 +89,9 @@ returns-clause-known g c =
     let network_is : c.in-Ok-coloured_cable.network ≡ network_at p d c.args.index =
     (c.in-Ok-coloured_cable.ensures {u = tt}).network ∙ ap (network_of p d) (c.deref.ensures.value ∙ colours_are) in
     subst (λ (xs : List ℕ). (n : ℕ) → 2 ≤ n → Contains xs n → Knows c.coloured_cable.new.notes n) (c.deref.ensures.value ∙ colours_are) ((c.in-Ok-coloured_cable.ensures {u = tt}).known)
+
+pub returns-clause-few : goal.returns-clause-few
+returns-clause-few g c =
+    let network = c.in-Ok-coloured_cable.network in
+    swept_few (g.C.Choose.answers c.args.chooser.now) network c.args.turns.now c.contract.new.turns c.nodes.ensures.network.few_nodes (subst (All IsShortNode) c.nodes.ensures.value c.short_nodes.ensures)
+    ((c.in-Ok-contract.ensures {u = tt}).swept)

@@ -1,0 +1,5 @@
+pub mod Shares
+pub mod Rounds
+pub mod Halves
+pub mod Wholes
+pub mod Refusals
