@@ -9,7 +9,7 @@ use Rattle.braid_trace.specs.Braids.{first_wide, refusal}
 figure_eight : refusal (record { strands = 3; word = pos 1 ∷ negsuc 1 ∷ pos 1 ∷ negsuc 1 ∷ [] }) ≡ None
 figure_eight = refl
 
-wide : refusal (record { strands = 2; word = pos 2 ∷ [] }) ≡ Some (Entry 1)
+wide : refusal (record { strands = 2; word = pos 2 ∷ [] }) ≡ Some (Entry 1 2)
 wide = refl
 
 seven : refusal (record { strands = 7; word = [] }) ≡ Some (Strands 7)

@@ -1,5 +1,5 @@
 -- Each input has exactly one reading as a braid.
-use Rattle.std.proofs.Common.{◌≡◌, ℕ, ltb, Bool, true, false, cond, length, Option, Some, None, option_map, refl, sym, ap, inr}
+use Rattle.std.proofs.Common.{◌≡◌, ℕ, ltb, Bool, true, false, cond, length, Option, Some, None, option_map, refl, sym, ap, ap₂, inr}
 use Rattle.text_shapes.proofs.Readings.{text_read, read_unique}
 use Rattle.pd_reader.specs.declared.fault.Place.{Place}
 use Rattle.pd_reader.specs.declared.fault.Place.TheVariants as places
@@ -19,11 +19,11 @@ is_at (places.Number n) = refl
 is_at (places.Text n) = refl
 
 -- a reason is no place and not want of memory
-reason_kept : (many long : Bool) (given limit : ℕ) (wide : Option ℕ) (first : BraidFault) → cond many (Some (faults.Strands given)) (cond long (Some (faults.TooMany limit)) (option_map (λ at. faults.Entry at) wide)) ≡ Some first → cause first ≡ against first
+reason_kept : (many long : Bool) (given limit : ℕ) (wide : Option ℕ) (first : BraidFault) → cond many (Some (faults.Strands given)) (cond long (Some (faults.TooMany limit)) (option_map (λ at. faults.Entry at given) wide)) ≡ Some first → cause first ≡ against first
 reason_kept true long given limit wide first e = (let same : faults.Strands given ≡ first = cc in rw (sym same) refl)
 reason_kept false true given limit wide first e = (let same : faults.TooMany limit ≡ first = cc in rw (sym same) refl)
 reason_kept false false given limit None first e = absurd cc
-reason_kept false false given limit (Some at) first e = (let same : faults.Entry at ≡ first = cc in rw (sym same) refl)
+reason_kept false false given limit (Some at) first e = (let same : faults.Entry at given ≡ first = cc in rw (sym same) refl)
 
 pub is_against : (braid : BraidWord) (first : BraidFault) → refusal braid ≡ Some first → cause first ≡ against first
 is_against braid first e = reason_kept (ltb MOST_STRANDS braid.strands) (ltb MOST_ENTRIES (length braid.word)) braid.strands MOST_ENTRIES (first_wide braid.strands braid.word) first e
@@ -38,7 +38,7 @@ told_apart (faults.Number a) (faults.Number b) e = let same : a ≡ b = cc in ap
 told_apart (faults.Text a) (faults.Text b) e = let same : a ≡ b = cc in ap faults.Text same
 told_apart (faults.Strands a) (faults.Strands b) e = let same : a ≡ b = cc in ap faults.Strands same
 told_apart (faults.TooMany a) (faults.TooMany b) e = let same : a ≡ b = cc in ap faults.TooMany same
-told_apart (faults.Entry a) (faults.Entry b) e = let same : a ≡ b = cc in ap faults.Entry same
+told_apart (faults.Entry a m) (faults.Entry b n) e = let same : a ≡ b = cc in let strands : m ≡ n = cc in ap₂ faults.Entry same strands
 told_apart faults.Memory faults.Memory e = refl
 told_apart f g e = absurd cc
 

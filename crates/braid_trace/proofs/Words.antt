@@ -43,9 +43,9 @@ narrow n (d ∷ word) h e =
     let parts = front_narrow n d word e in
     ((signed_size d h.0, leb-false n (unsigned_abs d) parts.0), narrow n word h.1 parts.1)
 
-no_entry : (o : Option ℕ) → option_map (λ at. faults.Entry at) o ≡ None → o ≡ None
-no_entry None e = refl
-no_entry (Some at) e = absurd cc
+no_entry : (n : ℕ) (o : Option ℕ) → option_map (λ at. faults.Entry at n) o ≡ None → o ≡ None
+no_entry n None e = refl
+no_entry n (Some at) e = absurd cc
 
 -- A BRAID OF A TEXT THAT IS NOT REFUSED
 pub unrefused_is_braid : (braid : BraidWord) → IsTextBraid braid → refusal braid ≡ None → IsBraid braid
@@ -58,7 +58,7 @@ unrefused_is_braid braid h e =
           some = omega (arith, h.is_number.low);
           few_strands = ltb-false MOST_STRANDS braid.strands few;
           few_entries = ltb-false MOST_ENTRIES (length braid.word) short;
-          cross = narrow braid.strands braid.word h.are_signed (no_entry (first_wide braid.strands braid.word) (rw (few, short) at e));
+          cross = narrow braid.strands braid.word h.are_signed (no_entry braid.strands (first_wide braid.strands braid.word) (rw (few, short) at e));
         }
       ]
     ]

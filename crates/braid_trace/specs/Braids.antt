@@ -50,7 +50,7 @@ abbrev pub refusal : BraidWord → Option BraidFault
 refusal braid =
     cond (nat_lt MOST_STRANDS braid.strands) (Some (faults.Strands braid.strands))
     (cond (nat_lt MOST_ENTRIES (length braid.word)) (Some (faults.TooMany MOST_ENTRIES))
-    (option_map (λ at. faults.Entry at) (first_wide braid.strands braid.word)))
+    (option_map (λ at. faults.Entry at braid.strands) (first_wide braid.strands braid.word)))
 
 -- at least one strand and at most 6, at most 250 entries, and each crosses two of the strands
 pub record IsBraid (braid : BraidWord) : Type 0 where

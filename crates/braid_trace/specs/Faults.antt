@@ -18,7 +18,7 @@ cause (faults.Number n) = at_place (places.Number n)
 cause (faults.Text n) = at_place (places.Text n)
 cause (faults.Strands given) = against (faults.Strands given)
 cause (faults.TooMany limit) = against (faults.TooMany limit)
-cause (faults.Entry n) = against (faults.Entry n)
+cause (faults.Entry n strands) = against (faults.Entry n strands)
 cause faults.Memory = no_memory
 
 -- the fault at a place

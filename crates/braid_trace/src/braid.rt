@@ -64,7 +64,7 @@ impl Braid {
             });
         }
         match first_wide(strands, &word) {
-            Some(at) => Err(BraidFault::Entry { at }),
+            Some(at) => Err(BraidFault::Entry { at, strands }),
             None => Ok(Braid { strands, word }),
         }
     }

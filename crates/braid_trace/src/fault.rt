@@ -18,8 +18,8 @@ pub enum BraidFault {
     Strands { given: u32 },
     /// The text has more entries than `limit`, which is `MOST_ENTRIES`.
     TooMany { limit: u32 },
-    /// The entry `at`, from 1, is the first whose size is at least the number of strands.
-    Entry { at: u32 },
+    /// The entry `at`, from 1, is the first whose size is at least the number of strands, which is `strands`.
+    Entry { at: u32, strands: u32 },
     /// Memory ran out.
     Memory,
 }

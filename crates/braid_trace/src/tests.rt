@@ -18,8 +18,8 @@ const REFUSED: [(&[u8], BraidFault); 14] = [
     (b"BR[2,{1}]x", BraidFault::Head { at: 9 }),
     (b"BR[2,{1x}]", BraidFault::Head { at: 7 }),
     (b"BR[7,{}]", BraidFault::Strands { given: 7 }),
-    (b"BR[2,{2}]", BraidFault::Entry { at: 1 }),
-    (b"BR[3,{1,-2,-3}]", BraidFault::Entry { at: 3 }),
+    (b"BR[2,{2}]", BraidFault::Entry { at: 1, strands: 2 }),
+    (b"BR[3,{1,-2,-3}]", BraidFault::Entry { at: 3, strands: 3 }),
 ];
 
 /// Which texts are refused, and why.

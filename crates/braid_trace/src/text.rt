@@ -59,7 +59,7 @@ fn read_text(alloc: Global, bytes: &[u8]) -> Result<(u32, Vec<i32>), Stop>
 /// The refusal stands at byte p, from 0: `Head` where a letter stands there, `Number` where a digit does,
 /// and `Text` where another byte does or the input ends. Then `Strands` comes past 6 strands and holds their
 /// number, `TooMany` past 250 entries and holds 250, and `Entry` holds the first entry, from 1, whose size is
-/// at least the number of strands: 1 for `BR[2,{2}]`. `Memory` is want of memory.
+/// at least the number of strands, and that number: 1 and 2 for `BR[2,{2}]`. `Memory` is want of memory.
 pub fn read_braid(alloc: Global, bytes: &[u8]) -> Result<Braid, BraidFault>
     // What is read is what the text spells.
     ensures read { IfOk result (λ braid. IsBraidText bytes.now braid) }
