@@ -1,0 +1,4 @@
+pub mod Tetrahedra
+pub mod ItemCalls
+pub mod OneReading
+mod Examples

@@ -1,0 +1,3 @@
+pub mod Tetras
+pub mod Faults
+pub mod Laws

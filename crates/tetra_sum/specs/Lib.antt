@@ -1,0 +1,5 @@
+pub mod Lists
+pub mod Nets
+pub mod Known
+pub mod Colourings
+pub mod Refusals
