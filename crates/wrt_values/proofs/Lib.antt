@@ -1,3 +1,4 @@
 pub mod MissingInverses
 pub mod OneResidue
 mod Examples
+mod Surgeries

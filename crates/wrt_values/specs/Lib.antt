@@ -2,3 +2,4 @@ pub mod Refusals
 pub mod Inverses
 pub mod Values
 pub mod Coloured
+pub mod Surgery

@@ -5,6 +5,7 @@ mod bracket;
 mod coloured;
 mod fault;
 mod net;
+mod surgery;
 mod sweep;
 mod value;
 
@@ -12,6 +13,7 @@ pub use bracket::bracket_value;
 pub use coloured::coloured_value;
 pub use fault::{SweepStep, ValueFault, ValueRefusal};
 pub use net::net_value;
+pub use surgery::surgery_value;
 pub use value::Value;
 
 #[cfg(test)]
