@@ -1,10 +1,10 @@
 -- The parts of a command line as texts, which are lists of bytes. (This project's own.)
 --
---     Texts             a command, the numbers behind it, the value of each option that is given, and whether the flag is
+--     Texts             a command, the numbers behind it, the value of each option that is given, and whether each flag is
 --     texts_of parts    the texts of the program's `Parts`
 --
 -- Of "bracket 41 2 5 --turns" the command is "bracket", the numbers are "41", "2" and "5", no option has a value, and
--- the flag is given.
+-- of the flags `--turns` is given.
 use Rattle.std.specs.Prelude.{ℕ, Bool, List, Option, map, option_map}
 use Rattle.wrt_parts.specs.declared.parts.Parts.{Parts}
 
@@ -20,6 +20,7 @@ pub record Texts : Type 0 where
   pub workers : Option Text
   pub order : Option Text
   pub turns : Bool
+  pub even : Bool
 
 -- The texts of the parts.
 abbrev pub texts_of : Parts → Texts
@@ -31,4 +32,5 @@ texts_of parts = record {
   workers = option_map (λ s. s.now) parts.workers;
   order = option_map (λ s. s.now) parts.order;
   turns = parts.turns;
+  even = parts.even;
 }

@@ -20,4 +20,6 @@ pub struct Parts<'a> {
     pub order: Option<&'a str>,
     /// Whether `--turns` is given.
     pub turns: bool,
+    /// Whether `--even` is given.
+    pub even: bool,
 }

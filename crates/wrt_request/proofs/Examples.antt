@@ -1,18 +1,20 @@
 -- The definitions, computed.
-use Rattle.std.proofs.Common.{◌≡◌, refl, codes, true, false, [], ◌∷◌, Some, None, Ok, Err}
+use Rattle.std.proofs.Common.{◌≡◌, refl, codes, true, false, [], ◌∷◌, Some, None, Ok, Err, pos, negsuc}
 use Rattle.std.specs.Prelude.{◌==◌}
 use Rattle.std.specs.List.{slice_split}
 use Rattle.wrt_parts.specs.Texts.{Text, Texts}
 use Rattle.wrt_request.specs.declared.order.OrderWord.TheVariants.{Listed, Greedy, Given}
-use Rattle.wrt_request.specs.declared.option_name.OptionName.TheVariants.{Colors, Framing, Workers, Order}
+use Rattle.wrt_request.specs.declared.option_name.OptionName.TheVariants.{Colors, Framing, Workers, Order, Even}
 use Rattle.wrt_request.specs.declared.request.Numbers.{Numbers}
-use Rattle.wrt_request.specs.declared.request.Task.TheVariants.{Bracket, Colored, Torus}
+use Rattle.wrt_request.specs.declared.request.Task.TheVariants.{Bracket, Colored, Torus, Braid, Wrt}
 use Rattle.wrt_request.specs.declared.fault.PartsRefusal.TheVariants as refusals
 use Rattle.wrt_request.specs.declared.fault.PartsRefusal.TheVariants.{UnknownCommand, Takes, Number, Crossings}
 use Rattle.wrt_request.proofs.OnLiterals.{request_on_literals}
 use Rattle.wrt_request.specs.Decimals.{decimal_value}
+use Rattle.wrt_request.specs.Framings.{framings_of}
 use Rattle.wrt_request.specs.Lists.{list_value}
 use Rattle.wrt_request.specs.Requests.{request_of}
+use Rattle.wrt_request.specs.Workers.{workers_of}
 
 -- A command with the numbers that stand with single spaces (32) between them, and no option.
 abbrev bare : Text → Text → Texts
@@ -24,6 +26,7 @@ bare command numbers = record {
   workers = None;
   order = None;
   turns = false;
+  even = false;
 }
 
 abbrev at_41 : Numbers
@@ -109,6 +112,78 @@ sign_in_list : list_value (codes "3,+1") ≡ None
 unfolding request_on_literals
 sign_in_list = refl
 
+whole_numbers : framings_of (Some (codes "1,-2,0")) ≡ Ok (Some (pos 1 ∷ negsuc 1 ∷ pos 0 ∷ []))
+unfolding request_on_literals
+whole_numbers = refl
+
+no_framing : framings_of (Some []) ≡ Ok (Some [])
+unfolding request_on_literals
+no_framing = refl
+
+framings_not_given : framings_of None ≡ Ok None
+unfolding request_on_literals
+framings_not_given = refl
+
+minus_zero : framings_of (Some (codes "-0")) ≡ Ok (Some (pos 0 ∷ []))
+unfolding request_on_literals
+minus_zero = refl
+
+least_whole_number : framings_of (Some (codes "-9223372036854775808")) ≡ Ok (Some (negsuc 9223372036854775807 ∷ []))
+unfolding request_on_literals
+least_whole_number = refl
+
+below_the_least : framings_of (Some (codes "-9223372036854775809")) ≡ Err (refusals.List Framing)
+unfolding request_on_literals
+below_the_least = refl
+
+greatest_whole_number : framings_of (Some (codes "9223372036854775807")) ≡ Ok (Some (pos 9223372036854775807 ∷ []))
+unfolding request_on_literals
+greatest_whole_number = refl
+
+above_the_greatest : framings_of (Some (codes "1,9223372036854775808")) ≡ Err (refusals.List Framing)
+unfolding request_on_literals
+above_the_greatest = refl
+
+two_minuses : framings_of (Some (codes "--1")) ≡ Err (refusals.List Framing)
+unfolding request_on_literals
+two_minuses = refl
+
+lone_minus : framings_of (Some (codes "1,-")) ≡ Err (refusals.List Framing)
+unfolding request_on_literals
+lone_minus = refl
+
+plus_in_framings : framings_of (Some (codes "+1")) ≡ Err (refusals.List Framing)
+unfolding request_on_literals
+plus_in_framings = refl
+
+needless_zero_in_framings : framings_of (Some (codes "-01")) ≡ Err (refusals.List Framing)
+unfolding request_on_literals
+needless_zero_in_framings = refl
+
+no_framing_between : framings_of (Some (codes "1,,2")) ≡ Err (refusals.List Framing)
+unfolding request_on_literals
+no_framing_between = refl
+
+one_worker : workers_of None ≡ Ok 1
+unfolding request_on_literals
+one_worker = refl
+
+most_workers : workers_of (Some (codes "64")) ≡ Ok 64
+unfolding request_on_literals
+most_workers = refl
+
+too_many_workers : workers_of (Some (codes "65")) ≡ Err refusals.Workers
+unfolding request_on_literals
+too_many_workers = refl
+
+no_workers : workers_of (Some (codes "0")) ≡ Err refusals.Workers
+unfolding request_on_literals
+no_workers = refl
+
+workers_with_a_zero : workers_of (Some (codes "01")) ≡ Err refusals.Workers
+unfolding request_on_literals
+workers_with_a_zero = refl
+
 a_bracket : request_of (bare (codes "bracket") (codes "41 2 5")) ≡ Ok (record { task = Bracket (record { order = Listed; turns = false }); numbers = at_41 })
 unfolding request_on_literals
 a_bracket = refl
@@ -144,6 +219,26 @@ without_colours = refl
 colours_before_the_order : request_of (record (bare (codes "colored") (codes "41 2 5")) { colors = Some (codes "1,,2"); order = Some (codes "x") }) ≡ Err (refusals.List Colors)
 unfolding request_on_literals
 colours_before_the_order = refl
+
+a_surgery_value : request_of (record (bare (codes "wrt") (codes "41 2 5")) { framing = Some (codes "-1,2"); workers = Some (codes "4"); even = true }) ≡ Ok (record { task = Wrt (Some (negsuc 0 ∷ pos 2 ∷ [])) 4 true (record { order = Listed; turns = false }); numbers = at_41 })
+unfolding request_on_literals
+a_surgery_value = refl
+
+without_framings : request_of (bare (codes "wrt") (codes "41 2 5")) ≡ Ok (record { task = Wrt None 1 false (record { order = Listed; turns = false }); numbers = at_41 })
+unfolding request_on_literals
+without_framings = refl
+
+framings_before_the_order : request_of (record (bare (codes "wrt") (codes "41 2 5")) { framing = Some (codes "+1"); order = Some (codes "x"); workers = Some (codes "0") }) ≡ Err (refusals.List Framing)
+unfolding request_on_literals
+framings_before_the_order = refl
+
+order_before_the_workers : request_of (record (bare (codes "wrt") (codes "41 2 5")) { order = Some (codes "x"); workers = Some (codes "0") }) ≡ Err (refusals.List Order)
+unfolding request_on_literals
+order_before_the_workers = refl
+
+even_torus : request_of (record (bare (codes "torus") (codes "2 41 2 5")) { even = true }) ≡ Err (refusals.Option Even)
+unfolding request_on_literals
+even_torus = refl
 
 most_crossings : request_of (bare (codes "torus") (codes "256 41 2 5")) ≡ Ok (record { task = Torus 256 (record { order = Listed; turns = false }); numbers = at_41 })
 unfolding request_on_literals
@@ -215,3 +310,8 @@ no_crossings = refl
 too_many_crossings : request_of (bare (codes "torus") (codes "257 41 2 5")) ≡ Err Crossings
 unfolding request_on_literals
 too_many_crossings = refl
+
+-- braid 41 2 5 asks for the bracket of the braid on the input
+a_braid : request_of (bare (codes "braid") (codes "41 2 5")) ≡ Ok (record { task = Braid; numbers = at_41 })
+unfolding request_on_literals
+a_braid = refl

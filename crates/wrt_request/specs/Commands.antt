@@ -7,17 +7,17 @@
 --     check_options command texts      all options that are given belong to the command, or the refusal of the first that
 --                                      doesn't
 --
--- `bracket`, `colored` and `net` take M, A and R, and `torus` N before them; `--order` and `--turns` belong to all, and `--colors` to
--- `colored` and `net`.
+-- All take M, A and R, and `torus` N before them; `--order` and `--turns` belong to all but `moves` and `braid`, `--colors` to `colored` and
+-- `net`, `--framing` to `wrt` and `moves`, `--workers` and `--even` to `wrt`.
 use Rattle.std.specs.Prelude.{◌&&◌, ℕ, Bool, true, false, not, List, [], ◌∷◌, Option, Some, None, Result, Ok, Err, codes, find}
 use Rattle.std.specs.Str.{bytes_eq}
 use Rattle.wrt_parts.specs.Texts.{Text, Texts}
 use Rattle.wrt_request.specs.Options.{is_given}
 use Rattle.wrt_request.specs.declared.command.Command.{Command}
-use Rattle.wrt_request.specs.declared.command.Command.TheVariants.{Bracket, Colored, Net, Torus}
+use Rattle.wrt_request.specs.declared.command.Command.TheVariants.{Bracket, Colored, Net, Torus, Wrt, Moves, Braid}
 use Rattle.wrt_request.specs.declared.command.Options.{Options}
 use Rattle.wrt_request.specs.declared.option_name.OptionName.{OptionName}
-use Rattle.wrt_request.specs.declared.option_name.OptionName.TheVariants.{Colors, Framing, Workers, Order, Turns}
+use Rattle.wrt_request.specs.declared.option_name.OptionName.TheVariants.{Colors, Framing, Workers, Order, Turns, Even}
 use Rattle.wrt_request.specs.declared.fault.PartsRefusal.{PartsRefusal}
 use Rattle.wrt_request.specs.declared.fault.PartsRefusal.TheVariants as refusals
 
@@ -27,13 +27,25 @@ pub record CommandRow : Type 0 where
   pub own_numbers : ℕ
   pub options : Options
 
+-- No option.
+abbrev pub no_options : Options
+no_options = record { colors = false; framing = false; workers = false; order = false; turns = false; even = false }
+
 -- `--order` and `--turns`.
 abbrev pub order_and_turns : Options
-order_and_turns = record { colors = false; framing = false; workers = false; order = true; turns = true }
+order_and_turns = record no_options { order = true; turns = true }
 
 -- `--colors`, `--order` and `--turns`.
 abbrev pub colors_and_order : Options
 colors_and_order = record order_and_turns { colors = true }
+
+-- `--framing`, `--workers`, `--order`, `--turns` and `--even`.
+abbrev pub surgery_options : Options
+surgery_options = record order_and_turns { framing = true; workers = true; even = true }
+
+-- `--framing`.
+abbrev pub framing_alone : Options
+framing_alone = record no_options { framing = true }
 
 -- The table.
 abbrev pub row_of : Command → CommandRow
@@ -41,10 +53,13 @@ row_of Bracket = record { name = codes "bracket"; own_numbers = 0; options = ord
 row_of Colored = record { name = codes "colored"; own_numbers = 0; options = colors_and_order }
 row_of Net = record { name = codes "net"; own_numbers = 0; options = colors_and_order }
 row_of Torus = record { name = codes "torus"; own_numbers = 1; options = order_and_turns }
+row_of Wrt = record { name = codes "wrt"; own_numbers = 0; options = surgery_options }
+row_of Moves = record { name = codes "moves"; own_numbers = 0; options = framing_alone }
+row_of Braid = record { name = codes "braid"; own_numbers = 0; options = no_options }
 
 -- All commands.
 abbrev pub all_commands : List Command
-all_commands = Bracket ∷ Colored ∷ Net ∷ Torus ∷ []
+all_commands = Bracket ∷ Colored ∷ Net ∷ Torus ∷ Wrt ∷ Moves ∷ Braid ∷ []
 
 -- The command that was found, or the refusal where there is none.
 abbrev pub known_command : Option Command → Result Command PartsRefusal
@@ -62,10 +77,11 @@ has_option options Framing = options.framing
 has_option options Workers = options.workers
 has_option options Order = options.order
 has_option options Turns = options.turns
+has_option options Even = options.even
 
 -- All options, in the order in which they are looked at.
 abbrev pub all_options : List OptionName
-all_options = Colors ∷ Framing ∷ Workers ∷ Order ∷ Turns ∷ []
+all_options = Colors ∷ Framing ∷ Workers ∷ Order ∷ Turns ∷ Even ∷ []
 
 -- The option is given and doesn't belong to the command.
 abbrev pub is_foreign : Command → Texts → OptionName → Bool

@@ -5,6 +5,8 @@ pub mod Commands
 pub mod Stages
 pub mod Numbers
 pub mod Colours
+pub mod Framings
 pub mod Orders
+pub mod Workers
 pub mod Requests
 pub mod Laws

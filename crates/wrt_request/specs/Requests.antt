@@ -1,10 +1,10 @@
 -- What the parts of a command line ask for, or the first reason against them. (This project's own.)
 --
 --     task_of command numbers arguments  what the command asks for with its own numbers and the values of its options
---     IsInRange task                    the crossings of the task are 1 to 256
+--     IsInRange task                    the crossings of the task are 1 to 256, and its workers 1 to 64
 --     shared_numbers own numbers        M, A and R, behind so many numbers of the command's own
 --     sweep_of texts                    the options of a sweep: its order, and whether its turns are reported
---     arguments_of texts                the values of the options: the colours, and the options of a sweep
+--     arguments_of texts                the values of the options: the colours, the framings, the options of a sweep, the workers
 --     rest_of command numbers texts     the request of a command with its numbers, by the options
 --     request_of texts                  the request of the parts
 --
@@ -14,9 +14,11 @@ use Rattle.std.specs.Prelude.{◌&&◌, ◌+◌, ◌≤◌, ℕ, List, Result, O
 use Rattle.wrt_parts.specs.Texts.{Texts}
 use Rattle.wrt_request.specs.Commands.{command_of, row_of, check_options}
 use Rattle.wrt_request.specs.Colours.{colours_of}
+use Rattle.wrt_request.specs.Framings.{framings_of}
 use Rattle.wrt_request.specs.Numbers.{numbers_of}
 use Rattle.wrt_request.specs.Orders.{order_of}
 use Rattle.wrt_request.specs.Stages.{after}
+use Rattle.wrt_request.specs.Workers.{workers_of}
 use Rattle.wrt_request.specs.declared.command.Command.{Command}
 use Rattle.wrt_request.specs.declared.command.Command.TheVariants as commands
 use Rattle.wrt_request.specs.declared.request.Arguments.{Arguments}
@@ -24,7 +26,7 @@ use Rattle.wrt_request.specs.declared.request.Numbers.{Numbers}
 use Rattle.wrt_request.specs.declared.request.Request.{Request}
 use Rattle.wrt_request.specs.declared.request.Sweep.{Sweep}
 use Rattle.wrt_request.specs.declared.request.Task.{Task}
-use Rattle.wrt_request.specs.declared.request.Task.TheVariants.{Bracket, Colored, Net, Torus}
+use Rattle.wrt_request.specs.declared.request.Task.TheVariants.{Bracket, Colored, Net, Torus, Wrt, Moves, Braid}
 use Rattle.wrt_request.specs.declared.fault.PartsRefusal.{PartsRefusal}
 use Rattle.wrt_request.specs.declared.fault.PartsRefusal.TheVariants.{Crossings}
 
@@ -35,13 +37,19 @@ task_of commands.Colored numbers arguments = Ok (Colored arguments.colours argum
 task_of commands.Net numbers arguments = Ok (Net arguments.colours arguments.sweep)
 task_of commands.Torus numbers arguments =
     if nat_lt 0 (slice_index numbers 0) && nat_lt (slice_index numbers 0) 257 then Ok (Torus (slice_index numbers 0) arguments.sweep) else Err Crossings
+task_of commands.Wrt numbers arguments = Ok (Wrt arguments.framings arguments.workers arguments.even arguments.sweep)
+task_of commands.Moves numbers arguments = Ok (Moves arguments.framings)
+task_of commands.Braid numbers arguments = Ok Braid
 
--- The crossings of the task are 1 to 256.
+-- The crossings of the task are 1 to 256, and its workers 1 to 64.
 abbrev pub IsInRange : Task → Type 0
 IsInRange (Bracket sweep) = Unit {0}
 IsInRange (Colored colours sweep) = Unit {0}
 IsInRange (Net colours sweep) = Unit {0}
 IsInRange (Torus crossings sweep) = (1 ≤ crossings) × (crossings ≤ 256)
+IsInRange (Wrt framings workers even sweep) = (1 ≤ workers) × (workers ≤ 64)
+IsInRange (Moves framings) = Unit {0}
+IsInRange Braid = Unit {0}
 
 -- M, A and R, behind so many numbers of the command's own.
 abbrev pub shared_numbers : ℕ → List ℕ → Numbers
@@ -55,7 +63,9 @@ sweep_of texts = after (order_of texts.order) (λ order. Ok (record { order = or
 -- The values of the options, in the one order in which they are read.
 abbrev pub arguments_of : Texts → Result Arguments PartsRefusal
 arguments_of texts =
-    after (colours_of texts.colors) (λ colours. after (sweep_of texts) (λ sweep. Ok (record { colours = colours; sweep = sweep })))
+    after (colours_of texts.colors) (λ colours. after (framings_of texts.framing) (λ framings. after (sweep_of texts) (λ sweep.
+    after (workers_of texts.workers) (λ workers.
+    Ok (record { colours = colours; framings = framings; sweep = sweep; workers = workers; even = texts.even })))))
 
 -- The request of a command with its numbers: the options belong to it, their values are read in one order for all commands, and
 -- the command's own numbers are looked at last.

@@ -19,6 +19,12 @@ pub(crate) enum Command {
     Net,
     /// `torus N M A R`
     Torus,
+    /// `wrt M A R`
+    Wrt,
+    /// `moves M A R`
+    Moves,
+    /// `braid M A R`
+    Braid,
 }
 
 /// For each option, whether it belongs to a command.
@@ -29,6 +35,7 @@ pub(crate) struct Options {
     pub(crate) workers: bool,
     pub(crate) order: bool,
     pub(crate) turns: bool,
+    pub(crate) even: bool,
 }
 
 /// A row of the table of commands.
@@ -42,13 +49,21 @@ pub(crate) struct Row {
     options: Options,
 }
 
-/// `--order` and `--turns`.
-const ORDER_AND_TURNS: Options = Options {
+/// No option.
+const NO_OPTIONS: Options = Options {
     colors: false,
     framing: false,
     workers: false,
+    order: false,
+    turns: false,
+    even: false,
+};
+
+/// `--order` and `--turns`.
+const ORDER_AND_TURNS: Options = Options {
     order: true,
     turns: true,
+    ..NO_OPTIONS
 };
 
 /// `--colors`, `--order` and `--turns`.
@@ -57,13 +72,30 @@ const COLORS_AND_ORDER: Options = Options {
     ..ORDER_AND_TURNS
 };
 
+/// `--framing`, `--workers`, `--order`, `--turns` and `--even`.
+const SURGERY: Options = Options {
+    framing: true,
+    workers: true,
+    even: true,
+    ..ORDER_AND_TURNS
+};
+
+/// `--framing`.
+const FRAMING: Options = Options {
+    framing: true,
+    ..NO_OPTIONS
+};
+
 impl Command {
     /// All commands.
-    const ALL: [Command; 4] = [
+    const ALL: [Command; 7] = [
         Command::Bracket,
         Command::Colored,
         Command::Net,
         Command::Torus,
+        Command::Wrt,
+        Command::Moves,
+        Command::Braid,
     ];
 
     /// The command's row of the table.
@@ -92,6 +124,21 @@ impl Command {
                 name: "torus",
                 own_numbers: 1,
                 options: ORDER_AND_TURNS,
+            },
+            Command::Wrt => Row {
+                name: "wrt",
+                own_numbers: 0,
+                options: SURGERY,
+            },
+            Command::Moves => Row {
+                name: "moves",
+                own_numbers: 0,
+                options: FRAMING,
+            },
+            Command::Braid => Row {
+                name: "braid",
+                own_numbers: 0,
+                options: NO_OPTIONS,
             },
         }
     }
@@ -126,6 +173,7 @@ impl Command {
             OptionName::Workers => options.workers,
             OptionName::Order => options.order,
             OptionName::Turns => options.turns,
+            OptionName::Even => options.even,
         }
     }
 

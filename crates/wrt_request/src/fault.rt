@@ -19,6 +19,8 @@ pub enum PartsRefusal {
     Option { option: OptionName },
     /// The value of the option is neither one of its words nor a list.
     List { option: OptionName },
+    /// The workers aren't 1 to 64.
+    Workers,
     /// The crossings aren't 1 to 256.
     Crossings,
 }

@@ -5,14 +5,17 @@
 mod colours;
 mod command;
 mod fault;
+mod framing;
 mod laws;
 mod list;
 mod number;
 mod option_name;
 mod order;
 mod request;
+mod workers;
 
 pub use fault::{PartsFault, PartsRefusal};
+pub use framing::FramingList;
 pub use laws::{lists_by_spelling, numbers_by_spelling};
 pub use list::NumberList;
 pub use number::decimal;

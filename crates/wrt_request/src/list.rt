@@ -2,7 +2,7 @@
 
 ghost use Rattle.std.specs.Prelude.{◌≡◌, ◌==◌, IfOk, map, option_map};
 ghost use Rattle.std.specs.List.{slice_split};
-ghost use Rattle.wrt_request.specs.Lists.{member_value, members_of, list_value};
+ghost use Rattle.wrt_request.specs.Lists.{member_value, members_of, list_value, pieces_of};
 
 use crate::number::decimal;
 use std::alloc::{AllocError, Global};
@@ -67,14 +67,21 @@ fn list_of_members(alloc: Global, texts: &[&str]) -> Result<Option<NumberList>, 
     Ok(Some(NumberList { members }))
 }
 
+/// The pieces of the text between its commas; none of the empty text.
+pub(crate) fn pieces<'a>(alloc: Global, text: &'a str) -> Result<Vec<&'a str>, AllocError>
+    ensures { IfOk result (λ pieces. map (λ s. s.now) pieces.items ≡ pieces_of text.entry.now) }
+{
+    if text.is_empty() {
+        return Ok(Vec::new(alloc));
+    }
+    split_at_commas(alloc, text)
+}
+
 /// The list that the text writes: the empty text the empty list, and other texts numbers of at most
 /// nine digits with single commas between them. `None` for `1,,2`, `1, 2` and `1,02`.
 pub(crate) fn read_list(alloc: Global, text: &str) -> Result<Option<NumberList>, AllocError>
     ensures { IfOk result (λ list. list ≡ list_value text.now) }
 {
-    if text.is_empty() {
-        return list_of_members(alloc, &[]);
-    }
-    let pieces = split_at_commas(alloc, text)?;
+    let pieces = pieces(alloc, text)?;
     list_of_members(alloc, &pieces)
 }

@@ -20,6 +20,8 @@ pub enum OptionName {
     Order,
     /// `--turns`: report the turns too.
     Turns,
+    /// `--even`: even colours alone.
+    Even,
 }
 
 impl fmt::Display for OptionName {
@@ -32,18 +34,20 @@ impl fmt::Display for OptionName {
             OptionName::Workers => "workers",
             OptionName::Order => "order",
             OptionName::Turns => "turns",
+            OptionName::Even => "even",
         })
     }
 }
 
 impl OptionName {
     /// All options, in the order in which they are looked at.
-    pub(crate) const ALL: [OptionName; 5] = [
+    pub(crate) const ALL: [OptionName; 6] = [
         OptionName::Colors,
         OptionName::Framing,
         OptionName::Workers,
         OptionName::Order,
         OptionName::Turns,
+        OptionName::Even,
     ];
 
     /// Whether the option is among the parts.
@@ -56,6 +60,7 @@ impl OptionName {
             OptionName::Workers => parts.workers.is_some(),
             OptionName::Order => parts.order.is_some(),
             OptionName::Turns => parts.turns,
+            OptionName::Even => parts.even,
         }
     }
 }

@@ -1,6 +1,6 @@
 //! Requests.
 
-ghost use Rattle.std.specs.Prelude.{◌≡◌, ◌+◌, length, IfOk};
+ghost use Rattle.std.specs.Prelude.{◌≡◌, ◌+◌, ◌≤◌, length, IfOk};
 ghost use Rattle.wrt_parts.specs.Texts.{texts_of};
 ghost use Rattle.wrt_request.specs.Commands.{row_of};
 ghost use Rattle.wrt_request.specs.Requests.{IsInRange, arguments_of, request_of, rest_of, shared_numbers, sweep_of, task_of};
@@ -9,9 +9,11 @@ ghost use Rattle.wrt_request.specs.Stages.{Reads};
 use crate::colours::read_colours;
 use crate::command::Command;
 use crate::fault::{PartsFault, PartsRefusal};
+use crate::framing::{FramingList, read_framings};
 use crate::list::NumberList;
 use crate::number::read_numbers;
 use crate::order::{OrderWord, read_order};
+use crate::workers::read_workers;
 use std::alloc::Global;
 use wrt_parts::Parts;
 
@@ -40,23 +42,55 @@ pub struct Sweep {
 pub(crate) struct Arguments {
     /// The colours.
     pub(crate) colours: NumberList,
+    /// The framings, where the option is given.
+    pub(crate) framings: Option<FramingList>,
     /// The options of a sweep.
     pub(crate) sweep: Sweep,
+    /// How many workers share a sum: 1 to 64.
+    pub(crate) workers: u32,
+    /// Whether only even colours are summed.
+    pub(crate) even: bool,
 }
 
 /// What is asked for at M, A and R, with its own arguments.
 #[derive(Drop, Debug)]
 pub enum Task {
     /// `bracket M A R`: the bracket of the diagram on the input.
-    Bracket { sweep: Sweep },
+    Bracket {
+        sweep: Sweep,
+    },
     /// `colored M A R`: the value of the diagram on the input, whose components have these colours. That they fit it
     /// isn't known yet.
-    Colored { colours: NumberList, sweep: Sweep },
+    Colored {
+        colours: NumberList,
+        sweep: Sweep,
+    },
     /// `net M A R`: the value of the net on the input, whose labels have these colours. That they fit it isn't known
     /// yet.
-    Net { colours: NumberList, sweep: Sweep },
+    Net {
+        colours: NumberList,
+        sweep: Sweep,
+    },
     /// `torus N M A R`: the bracket of the closed braid on two strands with N positive crossings, 1 to 256.
-    Torus { crossings: u32, sweep: Sweep },
+    Torus {
+        crossings: u32,
+        sweep: Sweep,
+    },
+    /// `wrt M A R`: the surgery value of the diagram on the input, whose components have these framings, where the option is
+    /// given. That they fit it isn't known yet. As many workers, 1 to 64, share the sum; `even` sums even colours alone.
+    Wrt {
+        framings: Option<FramingList>,
+        workers: u32,
+        even: bool,
+        sweep: Sweep,
+    },
+    /// `moves M A R`: the values of the diagrams of the script on the input, its first one and what each step gives: brackets,
+    /// or with framings, which those of the first diagram's components are, surgery values. That they fit it isn't known yet.
+    Moves {
+        framings: Option<FramingList>,
+    },
+    /// `braid M A R`: the bracket of the closure of the braid on the input.
+    Braid,
 }
 
 /// What the words ask for.
@@ -81,20 +115,36 @@ fn read_sweep(alloc: Global, parts: &Parts) -> Result<Sweep, PartsFault>
 
 /// The values of the options, in the one order in which they are read.
 fn read_arguments(alloc: Global, parts: &Parts) -> Result<Arguments, PartsFault>
-    ensures { Reads (λ arguments. arguments) (arguments_of (texts_of parts.now)) result }
+    ensures value { Reads (λ arguments. arguments) (arguments_of (texts_of parts.now)) result }
+    ensures workers { IfOk result (λ arguments. (1 ≤ arguments.workers) × (arguments.workers ≤ 64)) }
 {
     let colours = read_colours(alloc, parts.colors)?;
+    let framings = read_framings(alloc, parts.framing)?;
     let sweep = read_sweep(alloc, parts)?;
-    Ok(Arguments { colours, sweep })
+    let workers = read_workers(parts.workers)?;
+    Ok(Arguments {
+        colours,
+        framings,
+        sweep,
+        workers,
+        even: parts.even,
+    })
 }
 
 /// What the command asks for with its own numbers and the values of its options.
 fn read_task(command: Command, numbers: &[u64], arguments: Arguments) -> Result<Task, PartsRefusal>
-    requires { length numbers.now ≡ (row_of command).own_numbers + 3 }
+    requires numbers { length numbers.now ≡ (row_of command).own_numbers + 3 }
+    requires workers { (1 ≤ arguments.workers) × (arguments.workers ≤ 64) }
     ensures value { result ≡ task_of command numbers.now arguments }
     ensures in_range { IfOk result (λ task. IsInRange task) }
 {
-    let Arguments { colours, sweep } = arguments;
+    let Arguments {
+        colours,
+        framings,
+        sweep,
+        workers,
+        even,
+    } = arguments;
     match command {
         Command::Bracket => Ok(Task::Bracket { sweep }),
         Command::Colored => Ok(Task::Colored { colours, sweep }),
@@ -106,6 +156,14 @@ fn read_task(command: Command, numbers: &[u64], arguments: Arguments) -> Result<
             }),
             _ => Err(PartsRefusal::Crossings),
         },
+        Command::Wrt => Ok(Task::Wrt {
+            framings,
+            workers,
+            even,
+            sweep,
+        }),
+        Command::Moves => Ok(Task::Moves { framings }),
+        Command::Braid => Ok(Task::Braid),
     }
 }
 
@@ -149,7 +207,7 @@ pub fn read_request(alloc: Global, parts: &Parts) -> Result<Request, PartsFault>
     // The definition's request or refusal, but for want of memory.
     ensures request { Reads (λ request. request) (request_of (texts_of parts.now)) result }
 
-    // The crossings that are asked for are 1 to 256.
+    // The crossings that are asked for are 1 to 256, and the workers 1 to 64.
     ensures in_range { IfOk result (λ request. IsInRange request.task) }
 {
     let command = Command::named(parts.command)?;

@@ -30,7 +30,7 @@ const ASKED: [(Words, Option<u32>, Option<&[u32]>); 6] = [
 ];
 
 /// Words, and the first reason against them.
-const REFUSED: [(Words, PartsRefusal); 14] = [
+const REFUSED: [(Words, PartsRefusal); 15] = [
     (("", &[], None), PartsRefusal::UnknownCommand),
     (("knot", &["x"], Some("x")), PartsRefusal::UnknownCommand),
     (("bracket", &[], None), PartsRefusal::Takes { numbers: 3 }),
@@ -60,6 +60,12 @@ const REFUSED: [(Words, PartsRefusal); 14] = [
         ("torus", &["0", "41", "2", "5"], None),
         PartsRefusal::Crossings,
     ),
+    (
+        ("braid", &AT_41, Some("listed")),
+        PartsRefusal::Option {
+            option: OptionName::Order,
+        },
+    ),
 ];
 
 /// The value of `--order` is none.
@@ -71,7 +77,7 @@ const NO_ORDER: PartsRefusal = PartsRefusal::List {
 const FOREIGN: [OptionName; 3] = [OptionName::Workers, OptionName::Framing, OptionName::Colors];
 
 /// The names of the options, in their order.
-const NAMES: [&str; 5] = ["colors", "framing", "workers", "order", "turns"];
+const NAMES: [&str; 6] = ["colors", "framing", "workers", "order", "turns", "even"];
 
 /// The parts of the words.
 fn parts(alloc: Global, words: Words) -> Result<Parts<'static>, AllocError> {
@@ -84,16 +90,19 @@ fn parts(alloc: Global, words: Words) -> Result<Parts<'static>, AllocError> {
         workers: None,
         order,
         turns: false,
+        even: false,
     })
 }
 
-/// The crossings of the torus link that is asked for, and the options of the sweep.
-fn asked(task: &Task) -> (Option<u32>, &Sweep) {
+/// The crossings of the torus link that is asked for, and the options of the sweep, where the task has one.
+fn asked(task: &Task) -> Option<(Option<u32>, &Sweep)> {
     match task {
-        Task::Bracket { sweep } | Task::Colored { sweep, .. } | Task::Net { sweep, .. } => {
-            (None, sweep)
-        },
-        Task::Torus { crossings, sweep } => (Some(*crossings), sweep),
+        Task::Bracket { sweep }
+        | Task::Colored { sweep, .. }
+        | Task::Net { sweep, .. }
+        | Task::Wrt { sweep, .. } => Some((None, sweep)),
+        Task::Torus { crossings, sweep } => Some((Some(*crossings), sweep)),
+        Task::Moves { .. } | Task::Braid => None,
     }
 }
 
@@ -115,7 +124,7 @@ fn words_ask(rt: HostRuntime) -> Result<(), Fail> {
     for (words, crossings, list) in ASKED {
         let parts = parts(rt.alloc(), words)?;
         let request = read_request(rt.alloc(), &parts)?;
-        let (asked, sweep) = asked(&request.task);
+        let (asked, sweep) = asked(&request.task).ok_or("a sweep")?;
         assert!(rt;
             asked == crossings && given(&sweep.order) == list && !sweep.turns,
             "{words:?}"

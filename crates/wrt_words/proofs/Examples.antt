@@ -20,6 +20,7 @@ bare command numbers = record {
   workers = None;
   order = None;
   turns = false;
+  even = false;
 }
 
 bracket : parts_of (spaced (codes "bracket 41 2 5")) ≡ Some (bare (codes "bracket") (spaced (codes "41 2 5")))
@@ -62,7 +63,7 @@ value_with_hyphen : parts_of (spaced (codes "wrt 41 2 5 --framing=-1")) ≡ Some
 unfolding words_on_literals
 value_with_hyphen = refl
 
-all_options : parts_of (spaced (codes "wrt 41 2 5 --order=x --workers=4 --framing=f --colors=c --turns")) ≡ Some (record (bare (codes "wrt") (spaced (codes "41 2 5"))) { colors = Some (codes "c"); framing = Some (codes "f"); workers = Some (codes "4"); order = Some (codes "x"); turns = true })
+all_options : parts_of (spaced (codes "wrt 41 2 5 --even --order=x --workers=4 --framing=f --colors=c --turns")) ≡ Some (record (bare (codes "wrt") (spaced (codes "41 2 5"))) { colors = Some (codes "c"); framing = Some (codes "f"); workers = Some (codes "4"); order = Some (codes "x"); turns = true; even = true })
 unfolding words_on_literals
 all_options = refl
 
@@ -127,7 +128,7 @@ flag_with_value : parts_of (spaced (codes "bracket 41 2 5 --turns=true")) ≡ No
 unfolding words_on_literals
 flag_with_value = refl
 
-unknown_option : parts_of (spaced (codes "bracket 41 2 5 --even")) ≡ None
+unknown_option : parts_of (spaced (codes "bracket 41 2 5 --odd")) ≡ None
 unfolding words_on_literals
 unknown_option = refl
 

@@ -19,5 +19,6 @@ pub texts_same : (p : Parts) (rows : List Row)
     → option_map (λ s. s.now) p.workers ≡ first_of (codes "workers") rows
     → option_map (λ s. s.now) p.order ≡ first_of (codes "order") rows
     → p.turns ≡ is_set (codes "turns") rows
+    → p.even ≡ is_set (codes "even") rows
     → texts_of p ≡ texts_in rows
-texts_same p rows command numbers colors framing workers order turns = cc
+texts_same p rows command numbers colors framing workers order turns even = cc

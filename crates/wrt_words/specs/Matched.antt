@@ -28,4 +28,5 @@ texts_in rows = record {
   workers = first_of (codes "workers") rows;
   order = first_of (codes "order") rows;
   turns = is_set (codes "turns") rows;
+  even = is_set (codes "even") rows;
 }

@@ -31,9 +31,9 @@ numbers_rule = record (new_rule (codes "numbers")) { action = Some Append }
 abbrev pub positional_app : App
 positional_app = with_rule (with_rule (new_app (codes "wrtcalc")) command_rule) numbers_rule
 
--- The command with the positional arguments, four options and a flag.
+-- The command with the positional arguments, four options and two flags.
 unfoldable pub program_app : App
 program_app =
-    with_rule (with_rule (with_rule (with_rule (with_rule positional_app
+    with_rule (with_rule (with_rule (with_rule (with_rule (with_rule positional_app
     (option_rule (codes "colors"))) (option_rule (codes "framing"))) (option_rule (codes "workers"))) (option_rule (codes "order")))
-    (flag_rule (codes "turns"))
+    (flag_rule (codes "turns"))) (flag_rule (codes "even"))

@@ -46,5 +46,6 @@ pub(crate) fn matched_parts<'a>(
         workers: matches.get_str("workers"),
         order: matches.get_str("order"),
         turns: has_flag(matches, "turns"),
+        even: has_flag(matches, "even"),
     })
 }

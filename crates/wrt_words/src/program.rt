@@ -52,5 +52,6 @@ pub(crate) fn program<'a>(alloc: Global) -> Result<Command<'a>, AllocError>
         .arg(option_arg(alloc, "framing"))?
         .arg(option_arg(alloc, "workers"))?
         .arg(option_arg(alloc, "order"))?
-        .arg(flag_arg(alloc, "turns"))
+        .arg(flag_arg(alloc, "turns"))?
+        .arg(flag_arg(alloc, "even"))
 }

@@ -4,22 +4,25 @@ use crate::{WordsFault, command_line, read_words};
 use std::test::Fail;
 
 /// A command, its numbers, the values of `--colors`, `--framing`, `--workers` and `--order`, and whether
-/// `--turns` is given.
+/// `--turns` and `--even` are given.
 type Wanted = (
     &'static str,
     &'static [&'static str],
     [Option<&'static str>; 4],
-    bool,
+    [bool; 2],
 );
 
 /// No option has a value.
 const BARE: [Option<&str>; 4] = [None; 4];
 
+/// No flag is given.
+const UNSET: [bool; 2] = [false; 2];
+
 /// Words in any order that is taken, and their parts.
 const TAKEN: [(&[&str], Wanted); 7] = [
     (
         &["bracket", "41", "2", "5"],
-        ("bracket", &["41", "2", "5"], BARE, false),
+        ("bracket", &["41", "2", "5"], BARE, UNSET),
     ),
     (
         &["--turns", "bracket", "41", "2", "--order=3,1,2", "5"],
@@ -27,7 +30,7 @@ const TAKEN: [(&[&str], Wanted); 7] = [
             "bracket",
             &["41", "2", "5"],
             [None, None, None, Some("3,1,2")],
-            true,
+            [true, false],
         ),
     ),
     (
@@ -39,20 +42,21 @@ const TAKEN: [(&[&str], Wanted); 7] = [
             "--workers",
             "4",
             "2",
+            "--even",
         ],
         (
             "wrt",
             &["41", "2"],
             [Some(""), Some("-1"), Some("4"), None],
-            false,
+            [false, true],
         ),
     ),
-    (&["torus"], ("torus", &[], BARE, false)),
-    (&["help"], ("help", &[], BARE, false)),
-    (&["", "", "-"], ("", &["", "-"], BARE, false)),
+    (&["torus"], ("torus", &[], BARE, UNSET)),
+    (&["help"], ("help", &[], BARE, UNSET)),
+    (&["", "", "-"], ("", &["", "-"], BARE, UNSET)),
     (
         &["bracket", "--", "41", "-2", "--turns"],
-        ("bracket", &["41", "-2", "--turns"], BARE, false),
+        ("bracket", &["41", "-2", "--turns"], BARE, UNSET),
     ),
 ];
 
@@ -64,7 +68,7 @@ const REFUSED: [&[&str]; 12] = [
     &["-h"],
     &["--version"],
     &["bracket", "41", "2", "5", "--help"],
-    &["bracket", "41", "2", "5", "--even"],
+    &["bracket", "41", "2", "5", "--odd"],
     &["bracket", "41", "2", "-5"],
     &["bracket", "41", "2", "5", "--order"],
     &["bracket", "41", "2", "5", "--order=1", "--order=1"],
@@ -80,13 +84,16 @@ fn taken_words_have_their_parts(rt: HostRuntime) -> Result<(), Fail> {
             Ok(parts) => parts,
             Err(fault) => return Err(fault.into()),
         };
-        let (command, numbers, options, turns) = wanted;
+        let (command, numbers, options, flags) = wanted;
         let given = [parts.colors, parts.framing, parts.workers, parts.order];
         assert!(rt;
             parts.command == command && parts.numbers.as_slice() == numbers,
             "{words:?}"
         );
-        assert!(rt; given == options && parts.turns == turns, "{words:?}");
+        assert!(rt;
+            given == options && [parts.turns, parts.even] == flags,
+            "{words:?}"
+        );
     }
     Ok(())
 }

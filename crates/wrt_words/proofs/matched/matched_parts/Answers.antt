@@ -17,6 +17,7 @@ returns c =
       workers = c.get_str-4.result;
       order = c.get_str-5.result;
       turns = c.has_flag.result;
+      even = c.has_flag-2.result;
     } in
     texts_same parts (rows_of f)
     (ap (λ (s : Bor Text). s.now) c.unwrap_or.ensures ∙ unwrapped c.get_str.result _
@@ -27,3 +28,4 @@ returns c =
     (c.get_str-4.ensures ∙ first_value-rows f (codes "workers"))
     (c.get_str-5.ensures ∙ first_value-rows f (codes "order"))
     c.has_flag.ensures
+    c.has_flag-2.ensures

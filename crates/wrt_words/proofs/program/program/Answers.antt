@@ -14,4 +14,5 @@ returns c =
     let e4 = app_more _ _ _ _ _ c.in_ok-arg-4.ensures c.option_arg-2.ensures.local e3 c.option_arg-2.ensures.rule in
     let e5 = app_more _ _ _ _ _ c.in_ok-arg-5.ensures c.option_arg-3.ensures.local e4 c.option_arg-3.ensures.rule in
     let e6 = app_more _ _ _ _ _ c.in_ok-arg-6.ensures c.option_arg-4.ensures.local e5 c.option_arg-4.ensures.rule in
-    IfOk-weaker c.arg-7.result _ _ (λ r added. app_more _ r _ _ _ added c.flag_arg.ensures.local e6 c.flag_arg.ensures.rule) c.arg-7.ensures
+    let e7 = app_more _ _ _ _ _ c.in_ok-arg-7.ensures c.flag_arg.ensures.local e6 c.flag_arg.ensures.rule in
+    IfOk-weaker c.arg-8.result _ _ (λ r added. app_more _ r _ _ _ added c.flag_arg-2.ensures.local e7 c.flag_arg-2.ensures.rule) c.arg-8.ensures
