@@ -1,6 +1,6 @@
 -- What a diagram with colours comes to, where a step of its report stops: the plane, the colours, the order of its crossings, its
 -- value.
-use Rattle.std.proofs.Common.{String, Global, ◌≡◌, ◌∙◌, ℕ, List, Option, Some, None, Result, Ok, Err, refl, sym, ap, subst, string_bytes}
+use Rattle.std.proofs.Common.{String, Global, ◌≡◌, ◌∙◌, ℕ, List, Option, Some, None, Result, Ok, refl, sym, ap, subst, string_bytes}
 use Rattle.root_quantum.specs.Parameters.{Parameters}
 use Rattle.pd_reader.specs.declared.item.Item.{Item}
 use Rattle.frontier_laws.specs.Orders.{View}

@@ -50,13 +50,13 @@ spaced = slice_split (λ b. b == 32)
 
 bracket_words : opening (spaced (codes "bracket 41 2 5")) ≡ opened (Bracket plain) worked
 unfolding words_on_literals request_on_literals worked
-bracket_words = ap (λ found. after (refused_as ParametersRefused found) (opened (Bracket plain))) (sym (made_law (record { modulus = 41; root = 2; level = 5 }) worked refl refl refl refl))
+bracket_words = ap (λ found. after (refused_as ParametersRefused found) (opened (Bracket plain))) (sym (made_law All (record { modulus = 41; root = 2; level = 5 }) worked refl refl refl refl))
 
 torus_words : opening (spaced (codes "torus 2 41 2 5 --turns --order=greedy")) ≡ opened (Torus 2 (record { order = Greedy; turns = true })) worked
 unfolding words_on_literals request_on_literals worked
 torus_words =
     ap (λ found. after (refused_as ParametersRefused found) (opened (Torus 2 (record { order = Greedy; turns = true }))))
-    (sym (made_law (record { modulus = 41; root = 2; level = 5 }) worked refl refl refl refl))
+    (sym (made_law All (record { modulus = 41; root = 2; level = 5 }) worked refl refl refl refl))
 
 few_words : opening (spaced (codes "bracket 41")) ≡ Err (Words (Parts (Takes 3)))
 unfolding words_on_literals request_on_literals

@@ -1,22 +1,27 @@
 -- What the bytes of an input come to, from what their reading does; that this is one thing, and something, where the shape of text has
 -- its two laws; and that diagrams have them.
-use Rattle.std.proofs.Common.{◌≡◌, ◌≢◌, ◌⊎◌, ◌<◌, ◌≤◌, ◌∙◌, inl, inr, ℕ, List, length, Option, Some, None, Result, Ok, Err, refl, sym, ap, arith}
+use Rattle.std.proofs.Common.{◌≡◌, ◌≤◌, ◌∙◌, inl, inr, ℕ, List, length, Option, Some, Result, Ok, Err, refl, sym, ap, arith}
 use Rattle.std.proofs.lemmas.Bool.{cases_lt}
-use Rattle.pd_reader.specs.declared.item.Item.{Item}
 use Rattle.pd_reader.specs.declared.fault.TextFault.{TextFault}
 use Rattle.pd_reader.specs.declared.fault.TextFault.TheVariants as texts
 use Rattle.pd_reader.specs.Refusals.{IsPdReading, IsPdRefusal, IsNetReading, IsNetRefusal}
-use Rattle.pd_reader.specs.Faults.{IsNamed, cause, no_memory}
+use Rattle.pd_reader.specs.Faults.{IsNamed, cause}
 use Rattle.pd_reader.proofs.OneReading.{readings_are_unique_lem, readings_exist_lem}
+use Rattle.script_reader.specs.ScriptTexts.{IsScriptReading, IsScriptRefusal}
+use Rattle.script_reader.proofs.OneScriptReading.{script_readings_are_unique, script_readings_exist}
+use Rattle.braid_trace.specs.declared.fault.BraidFault.{BraidFault}
+use Rattle.braid_trace.specs.declared.fault.BraidFault.TheVariants as braids
+use Rattle.braid_trace.specs.Faults.{IsBraidReading, IsBraidRefusal, cause as cause_of_braid}
+use Rattle.braid_trace.proofs.OneReading as braid_readings
 use Rattle.wrt_commands.specs.declared.refusal.Refusal.{Refusal}
 use Rattle.wrt_commands.specs.declared.refusal.Refusal.TheVariants as refusals
 use Rattle.wrt_commands.specs.declared.stop.Stop.{Stop}
 use Rattle.wrt_commands.specs.declared.text_refusal.Counted.TheVariants.{Items}
-use Rattle.wrt_commands.specs.declared.text_refusal.TextRefusal.{TextRefusal}
-use Rattle.wrt_commands.specs.Inputs.{IsTextOutcome, IsInputOutcome, IsPdOutcome, IsNetTextOutcome, HasOneOutcome, HasOutcome}
+use Rattle.wrt_commands.specs.Inputs.{IsTextOutcome, IsInputOutcome, IsPdOutcome, IsNetTextOutcome, IsScriptTextOutcome, HasOneOutcome, HasOutcome, IsBraidTextOutcome}
 use Rattle.wrt_request.specs.Stages.{after}
 use Rattle.wrt_commands.specs.Stops.{Is, Stops, Answers}
-use Rattle.wrt_commands.specs.TextRefusals.{refusal_of_text, stop_of_text}
+use Rattle.wrt_commands.specs.TextRefusals.{counted_in, script_text_refusal, stop_of_text, text_refusal}
+use Rattle.wrt_commands.specs.BraidRefusals.{refusal_of_braid, stop_of_braid}
 use Rattle.wrt_commands.specs.TooLongRefusals.{past_limit}
 use Rattle.wrt_commands.proofs.StageLemmas.{stops_as, answers_as}
 
@@ -47,29 +52,29 @@ module _ {A B : Type 0} (is_text : List ℕ → Result A Refusal → Type 0) (ne
       ]
 
 -- ---- the laws of a shape, by those of its reader
-module _ {A F : Type 0} (reading : List ℕ → Result A F → Type 0) (refusal_of : F → Option TextRefusal) where
+module _ {A F : Type 0} (reading : List ℕ → Result A F → Type 0) (refusal_of : F → Option Refusal) where
   one_outcome_of_text : ((bytes : List ℕ) (x y : Result A F) → reading bytes x → reading bytes y → x ≡ y) → HasOneOutcome (IsTextOutcome reading refusal_of)
   one_outcome_of_text one bytes (Ok x) (Ok y) h k = let e = one bytes (Ok x) (Ok y) h k in cc
-  one_outcome_of_text one bytes (Ok x) (Err refusal) h k = let e = one bytes (Ok x) (Err k.0) h k.2 in absurd (cc)
-  one_outcome_of_text one bytes (Err refusal) (Ok y) h k = let e = one bytes (Ok y) (Err h.0) k h.2 in absurd (cc)
+  one_outcome_of_text one bytes (Ok x) (Err refusal) h k = let e = one bytes (Ok x) (Err k.0) h k.1 in absurd (cc)
+  one_outcome_of_text one bytes (Err refusal) (Ok y) h k = let e = one bytes (Ok y) (Err h.0) k h.1 in absurd (cc)
   one_outcome_of_text one bytes (Err refusal) (Err other) h k =
-      let e = one bytes (Err h.0) (Err k.0) h.2 k.2 in
+      let e = one bytes (Err h.0) (Err k.0) h.1 k.1 in
       let same : h.0 ≡ k.0 = cc in
       let told = ap refusal_of same in
-      let left = h.3 in let right = k.3 in
-      let refused : h.1 ≡ k.1 = cc in
-      ap Err (h.4 ∙ ap refusals.Text refused ∙ sym k.4)
+      let left = h.2 in let right = k.2 in
+      let refused : refusal ≡ other = cc in
+      ap Err refused
 
-  text_of_reading : ((bytes : List ℕ) (fault : F) → reading bytes (Err fault) → (refused : TextRefusal) × (refusal_of fault ≡ Some refused)) → (bytes : List ℕ) → (read : Result A F) → reading bytes read
+  text_of_reading : ((bytes : List ℕ) (fault : F) → reading bytes (Err fault) → (refusal : Refusal) × (refusal_of fault ≡ Some refusal)) → (bytes : List ℕ) → (read : Result A F) → reading bytes read
       → (text : Result A Refusal) × IsTextOutcome reading refusal_of bytes text
   text_of_reading told bytes (Ok value) h = (Ok value, h)
-  text_of_reading told bytes (Err fault) h = let t = told bytes fault h in (Err (refusals.Text t.0), (fault, t.0, h, t.1, refl))
+  text_of_reading told bytes (Err fault) h = let t = told bytes fault h in (Err t.0, (fault, h, t.1))
 
 -- ---- diagrams
 pub pd_one_outcome : HasOneOutcome IsPdOutcome
-pd_one_outcome = one_outcome_of_text IsPdReading (refusal_of_text Items) readings_are_unique_lem.0
+pd_one_outcome = one_outcome_of_text IsPdReading (text_refusal Items) readings_are_unique_lem.0
 
-pd_told : (bytes : List ℕ) (fault : TextFault) → IsPdReading bytes (Err fault) → (refused : TextRefusal) × (refusal_of_text Items fault ≡ Some refused)
+pd_told : (bytes : List ℕ) (fault : TextFault) → IsPdReading bytes (Err fault) → (refusal : Refusal) × (text_refusal Items fault ≡ Some refusal)
 pd_told bytes (texts.Head at) h = (_, refl)
 pd_told bytes (texts.Number at) h = (_, refl)
 pd_told bytes (texts.Text at) h = (_, refl)
@@ -78,22 +83,22 @@ pd_told bytes (texts.Label label count) h = (_, refl)
 pd_told bytes texts.Memory h = absurd (h.0 refl)
 
 pub pd_outcome : HasOutcome IsPdOutcome
-pd_outcome bytes = let r = readings_exist_lem.0 bytes in text_of_reading IsPdReading (refusal_of_text Items) pd_told bytes r.0 r.1
+pd_outcome bytes = let r = readings_exist_lem.0 bytes in text_of_reading IsPdReading (text_refusal Items) pd_told bytes r.0 r.1
 
 -- a fault of the reader
 pub pd_stops : (bytes : List ℕ) (fault : TextFault) → IsPdRefusal bytes fault → IsNamed bytes (cause fault) → Stops (IsPdOutcome bytes) (stop_of_text Items fault)
-pd_stops bytes (texts.Head at) h named = (texts.Head at, _, ((λ e. cc), h, named), refl, refl)
-pd_stops bytes (texts.Number at) h named = (texts.Number at, _, ((λ e. cc), h, named), refl, refl)
-pd_stops bytes (texts.Text at) h named = (texts.Text at, _, ((λ e. cc), h, named), refl, refl)
-pd_stops bytes (texts.TooMany limit) h named = (texts.TooMany limit, _, ((λ e. cc), h, named), refl, refl)
-pd_stops bytes (texts.Label label count) h named = (texts.Label label count, _, ((λ e. cc), h, named), refl, refl)
+pd_stops bytes (texts.Head at) h named = (texts.Head at, ((λ e. cc), h, named), refl)
+pd_stops bytes (texts.Number at) h named = (texts.Number at, ((λ e. cc), h, named), refl)
+pd_stops bytes (texts.Text at) h named = (texts.Text at, ((λ e. cc), h, named), refl)
+pd_stops bytes (texts.TooMany limit) h named = (texts.TooMany limit, ((λ e. cc), h, named), refl)
+pd_stops bytes (texts.Label label count) h named = (texts.Label label count, ((λ e. cc), h, named), refl)
 pd_stops bytes texts.Memory h named = tt
 
 -- ---- nets
 pub net_one_outcome : HasOneOutcome IsNetTextOutcome
-net_one_outcome = one_outcome_of_text IsNetReading (refusal_of_text Items) readings_are_unique_lem.1
+net_one_outcome = one_outcome_of_text IsNetReading (text_refusal Items) readings_are_unique_lem.1
 
-net_told : (bytes : List ℕ) (fault : TextFault) → IsNetReading bytes (Err fault) → (refused : TextRefusal) × (refusal_of_text Items fault ≡ Some refused)
+net_told : (bytes : List ℕ) (fault : TextFault) → IsNetReading bytes (Err fault) → (refusal : Refusal) × (text_refusal Items fault ≡ Some refusal)
 net_told bytes (texts.Head at) h = (_, refl)
 net_told bytes (texts.Number at) h = (_, refl)
 net_told bytes (texts.Text at) h = (_, refl)
@@ -102,13 +107,63 @@ net_told bytes (texts.Label label count) h = (_, refl)
 net_told bytes texts.Memory h = absurd (h.0 refl)
 
 pub net_outcome : HasOutcome IsNetTextOutcome
-net_outcome bytes = let r = readings_exist_lem.1 bytes in text_of_reading IsNetReading (refusal_of_text Items) net_told bytes r.0 r.1
+net_outcome bytes = let r = readings_exist_lem.1 bytes in text_of_reading IsNetReading (text_refusal Items) net_told bytes r.0 r.1
 
 -- a fault of the reader
 pub net_stops : (bytes : List ℕ) (fault : TextFault) → IsNetRefusal bytes fault → IsNamed bytes (cause fault) → Stops (IsNetTextOutcome bytes) (stop_of_text Items fault)
-net_stops bytes (texts.Head at) h named = (texts.Head at, _, ((λ e. cc), h, named), refl, refl)
-net_stops bytes (texts.Number at) h named = (texts.Number at, _, ((λ e. cc), h, named), refl, refl)
-net_stops bytes (texts.Text at) h named = (texts.Text at, _, ((λ e. cc), h, named), refl, refl)
-net_stops bytes (texts.TooMany limit) h named = (texts.TooMany limit, _, ((λ e. cc), h, named), refl, refl)
-net_stops bytes (texts.Label label count) h named = (texts.Label label count, _, ((λ e. cc), h, named), refl, refl)
+net_stops bytes (texts.Head at) h named = (texts.Head at, ((λ e. cc), h, named), refl)
+net_stops bytes (texts.Number at) h named = (texts.Number at, ((λ e. cc), h, named), refl)
+net_stops bytes (texts.Text at) h named = (texts.Text at, ((λ e. cc), h, named), refl)
+net_stops bytes (texts.TooMany limit) h named = (texts.TooMany limit, ((λ e. cc), h, named), refl)
+net_stops bytes (texts.Label label count) h named = (texts.Label label count, ((λ e. cc), h, named), refl)
 net_stops bytes texts.Memory h named = tt
+
+-- ---- scripts
+pub script_one_outcome : HasOneOutcome IsScriptTextOutcome
+script_one_outcome = one_outcome_of_text IsScriptReading script_text_refusal script_readings_are_unique
+
+script_told : (bytes : List ℕ) (fault : TextFault) → IsScriptReading bytes (Err fault) → (refused : Refusal) × (script_text_refusal fault ≡ Some refused)
+script_told bytes (texts.Head at) h = (_, refl)
+script_told bytes (texts.Number at) h = (_, refl)
+script_told bytes (texts.Text at) h = (_, refl)
+script_told bytes (texts.TooMany limit) h = (_, refl)
+script_told bytes (texts.Label label count) h = (_, refl)
+script_told bytes texts.Memory h = absurd (h.0 refl)
+
+pub script_outcome : HasOutcome IsScriptTextOutcome
+script_outcome bytes = let r = script_readings_exist bytes in text_of_reading IsScriptReading script_text_refusal script_told bytes r.0 r.1
+
+-- a fault of the reader
+pub script_stops : (bytes : List ℕ) (fault : TextFault) → IsScriptRefusal bytes fault → IsNamed bytes (cause fault) → Stops (IsScriptTextOutcome bytes) (stop_of_text (counted_in fault) fault)
+script_stops bytes (texts.Head at) h named = (texts.Head at, ((λ e. cc), h, named), refl)
+script_stops bytes (texts.Number at) h named = (texts.Number at, ((λ e. cc), h, named), refl)
+script_stops bytes (texts.Text at) h named = (texts.Text at, ((λ e. cc), h, named), refl)
+script_stops bytes (texts.TooMany limit) h named = (texts.TooMany limit, ((λ e. cc), h, named), refl)
+script_stops bytes (texts.Label label count) h named = (texts.Label label count, ((λ e. cc), h, named), refl)
+script_stops bytes texts.Memory h named = tt
+
+-- ---- braids
+pub braid_one_outcome : HasOneOutcome IsBraidTextOutcome
+braid_one_outcome = one_outcome_of_text IsBraidReading refusal_of_braid braid_readings.readings_are_unique_lem
+
+braid_told : (bytes : List ℕ) (fault : BraidFault) → IsBraidReading bytes (Err fault) → (refusal : Refusal) × (refusal_of_braid fault ≡ Some refusal)
+braid_told bytes (braids.Head at) h = (_, refl)
+braid_told bytes (braids.Number at) h = (_, refl)
+braid_told bytes (braids.Text at) h = (_, refl)
+braid_told bytes (braids.Strands given) h = (_, refl)
+braid_told bytes (braids.TooMany limit) h = (_, refl)
+braid_told bytes (braids.Entry at strands) h = (_, refl)
+braid_told bytes braids.Memory h = absurd (h.0 refl)
+
+pub braid_outcome : HasOutcome IsBraidTextOutcome
+braid_outcome bytes = let r = braid_readings.readings_exist_lem bytes in text_of_reading IsBraidReading refusal_of_braid braid_told bytes r.0 r.1
+
+-- a fault of the reader
+pub braid_stops : (bytes : List ℕ) (fault : BraidFault) → IsBraidRefusal bytes fault → IsNamed bytes (cause_of_braid fault) → Stops (IsBraidTextOutcome bytes) (stop_of_braid fault)
+braid_stops bytes (braids.Head at) h named = (braids.Head at, ((λ e. cc), h, named), refl)
+braid_stops bytes (braids.Number at) h named = (braids.Number at, ((λ e. cc), h, named), refl)
+braid_stops bytes (braids.Text at) h named = (braids.Text at, ((λ e. cc), h, named), refl)
+braid_stops bytes (braids.Strands given) h named = (braids.Strands given, ((λ e. cc), h, named), refl)
+braid_stops bytes (braids.TooMany limit) h named = (braids.TooMany limit, ((λ e. cc), h, named), refl)
+braid_stops bytes (braids.Entry at strands) h named = (braids.Entry at strands, ((λ e. cc), h, named), refl)
+braid_stops bytes braids.Memory h named = tt

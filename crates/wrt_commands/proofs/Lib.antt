@@ -10,5 +10,9 @@ pub mod TaskLemmas
 pub mod NoWords
 pub mod UniqueOutcomes
 pub mod Settled
-pub mod OneResidue
+pub mod SurgeryLemmas
+pub mod FramingLemmas
+mod ScriptLemmas
+pub mod ReportedValues
+mod SameResidues
 mod Examples

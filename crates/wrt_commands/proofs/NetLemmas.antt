@@ -1,5 +1,5 @@
 -- What a net with colours comes to, where a step of its report stops: the plane, the colours, the order of its items, its value.
-use Rattle.std.proofs.Common.{String, Global, ◌≡◌, ◌∙◌, ◌⊎◌, inl, inr, ℕ, List, Option, Some, Result, Ok, Err, refl, sym, ap, subst, string_bytes}
+use Rattle.std.proofs.Common.{String, Global, ◌≡◌, ◌∙◌, ◌⊎◌, inl, inr, ℕ, List, Option, Some, Result, Ok, sym, ap, subst, string_bytes}
 use Rattle.root_quantum.specs.Parameters.{Parameters}
 use Rattle.pd_reader.specs.declared.item.NetItem.{NetItem}
 use Rattle.frontier_laws.specs.Orders.{View}

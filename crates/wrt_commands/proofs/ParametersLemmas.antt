@@ -6,7 +6,6 @@ use Rattle.root_quantum.specs.Refusals.{IsRefused, refusal}
 use Rattle.root_quantum.proofs.RefusalProofs.{accepted_law, refused_law}
 use Rattle.root_quantum.proofs.EqualParameters.{equal_parameters_law}
 use Rattle.root_quantum.specs.declared.form.Form.{Form}
-use Rattle.root_quantum.specs.declared.form.Form.TheVariants.{All}
 use Rattle.root_quantum.specs.declared.fault.ParamFault.{ParamFault}
 use Rattle.wrt_request.specs.declared.request.Numbers.{Numbers}
 use Rattle.wrt_commands.specs.declared.parameters_refusal.ParametersRefusal.{ParametersRefusal}
@@ -17,35 +16,38 @@ pub level_law : {E : Type 0} (t : Result ℕ E) (level : ℕ) → OkIff t (level
 level_law (Ok x) level h = h.1 ∙ omega (arith, h.0)
 level_law (Err e) level h = omega (arith, h)
 
-made_at : (p : Parameters) → p.form ≡ All → (judgement : Option ParamFault) (is : refusal All p.modulus p.root p.level ≡ judgement) → Ok p ≡ judged p.modulus p.root p.level judgement is
-made_at p full None is =
-    let q : Parameters = record { modulus = p.modulus; root = p.root; level = p.level; form = All; meets = (accepted_law All p.modulus p.root p.level).1 is } in
-    ap Ok ((equal_parameters_law p q).1 (refl, refl, refl, full))
-made_at p full (Some fault) is =
-    let none = (accepted_law All p.modulus p.root p.level).0 (subst (λ (k : Form). IsParameters k p.modulus p.root p.level) full p.meets) in absurd (cc)
+made_at : (form : Form) (p : Parameters) → p.form ≡ form → (judgement : Option ParamFault) (is : refusal form p.modulus p.root p.level ≡ judgement) → Ok p ≡ judged form p.modulus p.root p.level judgement is
+made_at form p same None is =
+    let q : Parameters = record { modulus = p.modulus; root = p.root; level = p.level; form = form; meets = (accepted_law form p.modulus p.root p.level).1 is } in
+    ap Ok ((equal_parameters_law p q).1 (refl, refl, refl, same))
+made_at form p same (Some fault) is =
+    let none = (accepted_law form p.modulus p.root p.level).0 (subst (λ (k : Form). IsParameters k p.modulus p.root p.level) same p.meets) in absurd (cc)
 
-abbrev at : ℕ → ℕ → ℕ → Result Parameters ParametersRefusal
-at m a r = judged m a r (refusal All m a r) refl
+module _ (form : Form) where
+  abbrev at : ℕ → ℕ → ℕ → Result Parameters ParametersRefusal
+  at m a r = judged form m a r (refusal form m a r) refl
 
--- parameters of these numbers are what the numbers come to
-pub made_law : (numbers : Numbers) (p : Parameters) → p.modulus ≡ numbers.modulus → p.root ≡ numbers.root → p.level ≡ level_of numbers → p.form ≡ All → Ok p ≡ parameters_of numbers
-unfolding parameters_of
-made_law numbers p m a r full =
-    made_at p full (refusal All p.modulus p.root p.level) refl
-    ∙ ap (λ x. at x p.root p.level) m
-    ∙ ap (λ x. at numbers.modulus x p.level) a
-    ∙ ap (at numbers.modulus numbers.root) r
+  -- parameters of these numbers are what the numbers come to
+  pub made_law : (numbers : Numbers) (p : Parameters) → p.modulus ≡ numbers.modulus → p.root ≡ numbers.root → p.level ≡ level_of numbers → p.form ≡ form → Ok p ≡ parameters_of form numbers
+  unfolding parameters_of
+  made_law numbers p m a r same =
+      made_at form p same (refusal form p.modulus p.root p.level) refl
+      ∙ ap (λ x. at x p.root p.level) m
+      ∙ ap (λ x. at numbers.modulus x p.level) a
+      ∙ ap (at numbers.modulus numbers.root) r
 
-refused_at : (m a r : ℕ) (fault : ParamFault) → IsRefused All m a r fault → (judgement : Option ParamFault) (is : refusal All m a r ≡ judgement) → Err (against_parameters r fault) ≡ judged m a r judgement is
-refused_at m a r fault h None is = let some = (refused_law All m a r fault).0 h in absurd (cc)
-refused_at m a r fault h (Some other) is =
-    let some = (refused_law All m a r fault).0 h in
-    let same : fault ≡ other = cc in
-    ap (λ f. Err (against_parameters r f)) same
+  refused_at : (m a r : ℕ) (fault : ParamFault) → IsRefused form m a r fault → (judgement : Option ParamFault) (is : refusal form m a r ≡ judgement)
+      → Err (against_parameters form r fault) ≡ judged form m a r judgement is
+  refused_at m a r fault h None is = let some = (refused_law form m a r fault).0 h in absurd (cc)
+  refused_at m a r fault h (Some other) is =
+      let some = (refused_law form m a r fault).0 h in
+      let same : fault ≡ other = cc in
+      ap (λ f. Err (against_parameters form r f)) same
 
--- and refused ones come to their fault
-pub refused_parameters : (numbers : Numbers) (fault : ParamFault) → IsRefused All numbers.modulus numbers.root (level_of numbers) fault → Err (against_parameters (level_of numbers) fault) ≡ parameters_of numbers
-unfolding parameters_of
-refused_parameters numbers fault h =
-    let m = numbers.modulus in let a = numbers.root in let r = level_of numbers in
-    refused_at m a r fault h (refusal All m a r) refl
+  -- and refused ones come to their fault
+  pub refused_parameters : (numbers : Numbers) (fault : ParamFault) → IsRefused form numbers.modulus numbers.root (level_of numbers) fault
+      → Err (against_parameters form (level_of numbers) fault) ≡ parameters_of form numbers
+  unfolding parameters_of
+  refused_parameters numbers fault h =
+      let m = numbers.modulus in let a = numbers.root in let r = level_of numbers in
+      refused_at m a r fault h (refusal form m a r) refl

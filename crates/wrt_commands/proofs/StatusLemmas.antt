@@ -1,14 +1,22 @@
 -- A refusal ends with one of the four statuses of refusals.
 use Rattle.std.proofs.Common.{◌≡◌, refl, ap, Bool, true, false}
+use Rattle.wrt_values.specs.declared.fault.ValueRefusal.{ValueRefusal}
 use Rattle.wrt_values.specs.declared.fault.ValueRefusal.TheVariants as values
+use Rattle.script_values.specs.declared.fault.ScriptRefusal.{ScriptRefusal}
+use Rattle.script_values.specs.declared.fault.ScriptRefusal.TheVariants as scripts
+use Rattle.script_values.specs.declared.move_refusal.MoveRefusal.{MoveRefusal}
+use Rattle.script_values.specs.declared.move_refusal.MoveRefusal.TheVariants as moves
 use Rattle.wrt_commands.specs.declared.refusal.Refusal.{Refusal}
-use Rattle.wrt_commands.specs.declared.refusal.Refusal.TheVariants.{Words, Parameters, TooLong, Text, Plane, Arguments, Value}
+use Rattle.wrt_commands.specs.declared.refusal.Refusal.TheVariants.{Words, Parameters, TooLong, Text, Plane, Arguments, Value, Script, Braid}
+use Rattle.wrt_commands.specs.declared.braid_refusal.BraidRefusal.TheVariants as braids
 use Rattle.wrt_commands.specs.declared.status.Status.{Status}
 use Rattle.wrt_commands.specs.declared.status.Status.TheVariants as statuses
 use Rattle.wrt_commands.specs.declared.text_refusal.TextRefusal.TheVariants as texts
 use Rattle.wrt_commands.specs.declared.stop.Stop.{Stop}
 use Rattle.wrt_commands.specs.declared.stop.Stop.TheVariants.{Refused, ReadFault, Memory}
 use Rattle.wrt_commands.specs.Refusals.{status_of}
+use Rattle.wrt_commands.specs.ScriptRefusals.{status_of_move, status_of_script}
+use Rattle.wrt_commands.specs.ValueRefusals.{status_of_value}
 use Rattle.wrt_commands.specs.Stops.{status_of_stop}
 
 -- The status is one of refusals.
@@ -22,6 +30,30 @@ is_refused statuses.Limit = true
 is_refused statuses.NoInverse = true
 is_refused statuses.Memory = false
 
+value_status : (refusal : ValueRefusal) → is_refused (status_of_value refusal) ≡ true
+value_status (values.TooMany components) = refl
+value_status (values.Inertia step) = refl
+value_status (values.NoInverse index common) = refl
+value_status (values.Wide step ends) = refl
+value_status (values.Table step) = refl
+value_status (values.NoOmegaInverse sign common) = refl
+
+move_status : (refusal : MoveRefusal) → is_refused (status_of_move refusal) ≡ true
+move_status (moves.NoEdge edge) = refl
+move_status (moves.NoCrossing crossing) = refl
+move_status moves.SameEdge = refl
+move_status (moves.LoopEdge edge) = refl
+move_status moves.NotSameFace = refl
+move_status moves.NotBigon = refl
+move_status moves.NotTriangle = refl
+move_status moves.NotCurl = refl
+move_status (moves.TooMany limit) = refl
+move_status (moves.NotPlanar faces wanted) = refl
+
+script_status : (refusal : ScriptRefusal) → is_refused (status_of_script refusal) ≡ true
+script_status (scripts.Step step reason) = move_status reason
+script_status (scripts.Line line reason) = value_status reason
+
 pub refused_status : (refusal : Refusal) → is_refused (status_of refusal) ≡ true
 refused_status (Words refusal) = refl
 refused_status (Parameters refusal) = refl
@@ -31,11 +63,13 @@ refused_status (Text (texts.Number at)) = refl
 refused_status (Text (texts.Text at)) = refl
 refused_status (Text (texts.TooMany limit counted)) = refl
 refused_status (Text (texts.Label label count)) = refl
+refused_status (Braid braids.Strands) = refl
+refused_status (Braid (braids.TooMany limit)) = refl
+refused_status (Braid (braids.Entry at strands)) = refl
 refused_status (Plane refusal) = refl
 refused_status (Arguments refusal) = refl
-refused_status (Value (values.NoInverse index common)) = refl
-refused_status (Value (values.Wide step ends)) = refl
-refused_status (Value (values.Table step)) = refl
+refused_status (Value refusal) = value_status refusal
+refused_status (Script refusal) = script_status refusal
 
 -- Only a read fault ends with `ReadFault`.
 pub read_fault_stop : (stop : Stop) → status_of_stop stop ≡ statuses.ReadFault → stop ≡ ReadFault

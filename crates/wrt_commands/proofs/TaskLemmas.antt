@@ -1,9 +1,9 @@
 -- The answers of the commands as answers of a task.
-use Rattle.std.proofs.Common.{String, Global, ◌≡◌, ◌∙◌, ◌<◌, inl, ℕ, List, length, true, Option, Result, Ok, Err, refl, sym, ap, subst}
+use Rattle.std.proofs.Common.{String, Global, ◌≡◌, ◌∙◌, ◌<◌, inl, ℕ, ℤ, Bool, List, length, true, Option, Result, Ok, Err, refl, sym, ap, subst}
 use Rattle.std.specs.Prelude.{MatchResult, string_bytes}
 use Rattle.wrt_request.specs.declared.request.Sweep.{Sweep}
 use Rattle.wrt_request.specs.declared.request.Task.{Task}
-use Rattle.wrt_request.specs.declared.request.Task.TheVariants.{Bracket, Colored, Net, Torus}
+use Rattle.wrt_request.specs.declared.request.Task.TheVariants.{Bracket, Colored, Net, Torus, Wrt, Moves, Braid}
 use Rattle.wrt_commands.specs.declared.opening.Opened.{Opened}
 use Rattle.wrt_commands.specs.declared.refusal.Refusal.TheVariants as refusals
 use Rattle.wrt_commands.specs.declared.stop.Stop.{Stop}
@@ -41,3 +41,15 @@ module _ (asked : Opened) where
   pub net_stopped : (colours : List ℕ) (sweep : Sweep) (left : Option (List ℕ)) (of stop : Stop) → asked.task ≡ Net colours sweep → stop ≡ of → IsUnread left of
       → (bytes : List ℕ) × IsTold left bytes × IsStoppedAt (Ok asked) bytes stop
   net_stopped colours sweep = unread_task (Net colours sweep) refl (λ bytes long. inl (long, refl))
+
+  pub wrt_stopped : (framings : Option (List ℤ)) (workers : ℕ) (even : Bool) (sweep : Sweep) (left : Option (List ℕ)) (of stop : Stop) → asked.task ≡ Wrt framings workers even sweep → stop ≡ of → IsUnread left of
+      → (bytes : List ℕ) × IsTold left bytes × IsStoppedAt (Ok asked) bytes stop
+  wrt_stopped framings workers even sweep = unread_task (Wrt framings workers even sweep) refl (λ bytes long. inl (long, refl))
+
+  pub moves_stopped : (framings : Option (List ℤ)) (left : Option (List ℕ)) (of stop : Stop) → asked.task ≡ Moves framings → stop ≡ of → IsUnread left of
+      → (bytes : List ℕ) × IsTold left bytes × IsStoppedAt (Ok asked) bytes stop
+  moves_stopped framings = unread_task (Moves framings) refl (λ bytes long. inl (long, refl))
+
+  pub braid_stopped : (left : Option (List ℕ)) (of stop : Stop) → asked.task ≡ Braid → stop ≡ of → IsUnread left of
+      → (bytes : List ℕ) × IsTold left bytes × IsStoppedAt (Ok asked) bytes stop
+  braid_stopped = unread_task Braid refl (λ bytes long. inl (long, refl))

@@ -7,24 +7,29 @@
 --     HasOneOutcome, HasOutcome is_text                 the two laws of a shape: bytes come to at most one outcome, and to one at least
 --     IsPdOutcome bytes outcome                         the shape of diagrams: `PD[..]`
 --     IsNetTextOutcome bytes outcome                    the shape of nets: `Net[..]`
+--     IsScriptTextOutcome bytes outcome                 the shape of scripts: `Moves[..]`
+--     IsBraidTextOutcome bytes outcome                  the shape of braids: `BR[n,{..}]`
 use Rattle.std.specs.Prelude.{◌≡◌, ◌⊎◌, ℕ, ◌<◌, ◌≤◌, List, length, Option, Some, Result, Ok, Err}
+use Rattle.braid_trace.specs.Braids.{BraidWord}
+use Rattle.braid_trace.specs.Faults.{IsBraidReading}
 use Rattle.pd_reader.specs.declared.item.Item.{Item}
 use Rattle.pd_reader.specs.declared.item.NetItem.{NetItem}
 use Rattle.pd_reader.specs.Refusals.{IsPdReading, IsNetReading}
+use Rattle.script_reader.specs.ScriptTexts.{ScriptParts, IsScriptReading}
 use Rattle.wrt_commands.specs.declared.refusal.Refusal.{Refusal}
-use Rattle.wrt_commands.specs.declared.refusal.Refusal.TheVariants.{TooLong, Text}
+use Rattle.wrt_commands.specs.declared.refusal.Refusal.TheVariants.{TooLong}
 use Rattle.wrt_commands.specs.declared.text_refusal.Counted.TheVariants.{Items}
-use Rattle.wrt_commands.specs.declared.text_refusal.TextRefusal.{TextRefusal}
-use Rattle.wrt_commands.specs.TextRefusals.{refusal_of_text}
+use Rattle.wrt_commands.specs.TextRefusals.{text_refusal, script_text_refusal}
+use Rattle.wrt_commands.specs.BraidRefusals.{refusal_of_braid}
 use Rattle.wrt_commands.specs.TooLongRefusals.{past_limit}
 use Rattle.wrt_request.specs.Stages.{after}
 
 -- The bytes are refused as texts of the shape: for a fault of its reader that is this refusal.
-abbrev pub IsRefusedText : {A F : Type 0} → (List ℕ → Result A F → Type 0) → (F → Option TextRefusal) → List ℕ → Refusal → Type 0
-IsRefusedText {F = F} reading refusal_of bytes refusal = (fault : F) × (refused : TextRefusal) × reading bytes (Err fault) × (refusal_of fault ≡ Some refused) × (refusal ≡ Text refused)
+abbrev pub IsRefusedText : {A F : Type 0} → (List ℕ → Result A F → Type 0) → (F → Option Refusal) → List ℕ → Refusal → Type 0
+IsRefusedText {F = F} reading refusal_of bytes refusal = (fault : F) × reading bytes (Err fault) × (refusal_of fault ≡ Some refusal)
 
 -- The bytes are read as this value, or are refused so.
-abbrev pub IsTextOutcome : {A F : Type 0} → (List ℕ → Result A F → Type 0) → (F → Option TextRefusal) → List ℕ → Result A Refusal → Type 0
+abbrev pub IsTextOutcome : {A F : Type 0} → (List ℕ → Result A F → Type 0) → (F → Option Refusal) → List ℕ → Result A Refusal → Type 0
 IsTextOutcome reading refusal_of bytes (Ok value) = reading bytes (Ok value)
 IsTextOutcome reading refusal_of bytes (Err refusal) = IsRefusedText reading refusal_of bytes refusal
 
@@ -44,8 +49,16 @@ HasOutcome {A = A} is_text = (bytes : List ℕ) → (read : Result A Refusal) ×
 -- ---- the shapes
 -- Diagrams: their limit is on items.
 abbrev pub IsPdOutcome : List ℕ → Result (List Item) Refusal → Type 0
-IsPdOutcome = IsTextOutcome IsPdReading (refusal_of_text Items)
+IsPdOutcome = IsTextOutcome IsPdReading (text_refusal Items)
 
 -- Nets: likewise.
 abbrev pub IsNetTextOutcome : List ℕ → Result (List NetItem) Refusal → Type 0
-IsNetTextOutcome = IsTextOutcome IsNetReading (refusal_of_text Items)
+IsNetTextOutcome = IsTextOutcome IsNetReading (text_refusal Items)
+
+-- Scripts: their limits are on items, and on steps.
+abbrev pub IsScriptTextOutcome : List ℕ → Result ScriptParts Refusal → Type 0
+IsScriptTextOutcome = IsTextOutcome IsScriptReading script_text_refusal
+
+-- Braids: with limits of their own.
+abbrev pub IsBraidTextOutcome : List ℕ → Result BraidWord Refusal → Type 0
+IsBraidTextOutcome = IsTextOutcome IsBraidReading refusal_of_braid

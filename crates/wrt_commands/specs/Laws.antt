@@ -2,30 +2,38 @@
 --
 --     OutcomesAreUnique      words and bytes come to at most one outcome
 --     OutcomesExist          and to one at least
---     OneResidue             two reports of one task, at the same parameters and bytes, begin with one residue, whatever the orders
+--     SameResidues           two reports of one task, at the same parameters and bytes, have the same lines of residues, whatever the
+--                            orders and the workers, with turns or without
 --     ReportsAreOfBrackets   the residue that the report of a diagram tells is its bracket
 --     ReportsAreOfNetValues  the same for a net
+--     ReportsAreOfSurgeryValues    the residue that the report of a diagram with framings tells is its surgery value
+--     ReportsAreOfBraidTraces      the residue that the report of a braid tells is the bracket of its closure
 --     ReportsAreOfColouredValues   the residue that the report of a diagram with colours tells is its value with these colours
-use Rattle.std.specs.Prelude.{◌≡◌, ℕ, false, List, Option, Result, Ok, Err}
+use Rattle.std.specs.Prelude.{◌≡◌, ℕ, ℤ, false, List, ◌++◌, Option, Result, Ok, Err}
 use Rattle.root_quantum.specs.Parameters.{Parameters}
 use Rattle.pd_reader.specs.declared.item.Item.{Item}
 use Rattle.pd_reader.specs.declared.item.NetItem.{NetItem}
 use Rattle.diagram_brackets.specs.Brackets.{bracket}
+use Rattle.braid_trace.specs.Braids.{BraidWord}
+use Rattle.braid_closures.specs.Closures.{closed}
 use Rattle.cables.specs.Nets.{coloured_net}
 use Rattle.coloured_values.specs.Coloured.{coloured}
+use Rattle.coloured_values.specs.Surgery.{surgery}
 use Rattle.skein_network.specs.Refusals.{net_colour}
 use Rattle.wrt_request.specs.declared.order.OrderWord.TheVariants.{Listed}
 use Rattle.wrt_request.specs.declared.request.Sweep.{Sweep}
 use Rattle.wrt_request.specs.declared.request.Task.{Task}
-use Rattle.wrt_request.specs.declared.request.Task.TheVariants.{Bracket, Colored, Net, Torus}
+use Rattle.wrt_request.specs.declared.request.Task.TheVariants.{Bracket, Colored, Net, Torus, Wrt, Moves, Braid}
 use Rattle.wrt_commands.specs.declared.opening.Opened.{Opened}
 use Rattle.wrt_commands.specs.declared.refusal.Refusal.{Refusal}
+use Rattle.wrt_commands.specs.BraidOutcomes.{braid_report}
 use Rattle.wrt_commands.specs.ColouredReports.{coloured_report}
 use Rattle.wrt_commands.specs.DiagramReports.{diagram_report}
 use Rattle.wrt_commands.specs.NetReports.{net_report}
 use Rattle.wrt_commands.specs.Openings.{opening}
 use Rattle.wrt_commands.specs.Outcomes.{Outcome, IsOutcome}
-use Rattle.wrt_commands.specs.Reports.{report_of}
+use Rattle.wrt_commands.specs.Reports.{report_of, turns_line}
+use Rattle.wrt_commands.specs.SurgeryReports.{surgery_report}
 
 -- words and bytes come to at most one outcome
 abbrev pub OutcomesAreUnique : Type 0
@@ -48,12 +56,22 @@ abbrev pub ReportsAreOfColouredValues : Type 0
 ReportsAreOfColouredValues =
     (p : Parameters) (sweep : Sweep) (colours : List ℕ) (items : List Item) (report : List ℕ) → coloured_report p sweep colours items ≡ Ok report → IsReportOf (coloured p items colours) report
 
+-- a report that a diagram with framings comes to, in any order, is one of its surgery value
+abbrev pub ReportsAreOfSurgeryValues : Type 0
+ReportsAreOfSurgeryValues =
+    (p : Parameters) (sweep : Sweep) (framings : List ℤ) (items : List Item) (report : List ℕ) → surgery_report p sweep framings items ≡ Ok report
+    → IsReportOf (surgery p (record { items = items; framings = framings })) report
+
 -- a report that a net comes to, in any order, is one of its value with these colours
 abbrev pub ReportsAreOfNetValues : Type 0
 ReportsAreOfNetValues =
     (p : Parameters) (sweep : Sweep) (colours : List ℕ) (items : List NetItem) (report : List ℕ) → net_report p sweep colours items ≡ Ok report → IsReportOf (coloured_net p items (net_colour items colours)) report
 
--- the task in the listed order and without turns
+-- a report that a braid comes to is one of the bracket of its closure
+abbrev pub ReportsAreOfBraidTraces : Type 0
+ReportsAreOfBraidTraces = (p : Parameters) (braid : BraidWord) (report : List ℕ) → braid_report p braid ≡ Ok report → IsReportOf (bracket p (closed braid)) report
+
+-- the task in the listed order and without turns, by one worker
 abbrev pub plain_sweep : Sweep
 plain_sweep = record { order = Listed; turns = false }
 
@@ -62,15 +80,22 @@ plain_task (Bracket sweep) = Bracket plain_sweep
 plain_task (Colored colours sweep) = Colored colours plain_sweep
 plain_task (Net colours sweep) = Net colours plain_sweep
 plain_task (Torus crossings sweep) = Torus crossings plain_sweep
+plain_task (Wrt framings workers even sweep) = Wrt framings 1 even plain_sweep
+plain_task (Moves framings) = Moves framings
+plain_task Braid = Braid
 
--- the openings ask for one task at the same parameters, but for the options of the sweep
+-- the openings ask for one task at the same parameters, but for the options of the sweep and the workers
 abbrev pub AskAlike : Result Opened Refusal → Result Opened Refusal → Type 0
 AskAlike (Ok x) (Ok y) = (x.params ≡ y.params) × (plain_task x.task ≡ plain_task y.task)
 AskAlike (Ok x) (Err refusal) = ⊥
 AskAlike (Err refusal) y = ⊥
 
--- then two reports for the same bytes begin with one residue
-abbrev pub OneResidue : Type 0
-OneResidue =
+-- a report of these lines, with a line of turns behind them or without
+abbrev pub IsReportWith : List ℕ → List ℕ → Type 0
+IsReportWith lines report = (turns : Option ℕ) × (report ≡ lines ++ turns_line turns)
+
+-- then two reports for the same bytes have the same lines of residues
+abbrev pub SameResidues : Type 0
+SameResidues =
     (words others : List (List ℕ)) (bytes report other : List ℕ) → AskAlike (opening words) (opening others) → IsOutcome words bytes (Ok report) → IsOutcome others bytes (Ok other)
-    → (residue : ℕ) × IsReportOf residue report × IsReportOf residue other
+    → (lines : List ℕ) × IsReportWith lines report × IsReportWith lines other

@@ -6,6 +6,7 @@ pub mod TextRefusals
 pub mod PlaneRefusals
 pub mod ArgumentsRefusals
 pub mod ValueRefusals
+pub mod ScriptRefusals
 pub mod Refusals
 pub mod Stops
 pub mod Reports
@@ -20,7 +21,14 @@ pub mod ColouredReports
 pub mod ColoredOutcomes
 pub mod NetReports
 pub mod NetOutcomes
+pub mod BraidRefusals
+pub mod BraidOutcomes
 pub mod TorusOutcomes
+pub mod FramingFits
+pub mod SurgeryReports
+pub mod WrtOutcomes
+pub mod MovesReports
+pub mod MovesOutcomes
 pub mod Outcomes
 pub mod Runs
 pub mod Laws

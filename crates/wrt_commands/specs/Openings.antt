@@ -1,14 +1,17 @@
 -- What words come to before the input is read: parameters and a task, or the first refusal. (This project's own.)
 --
+--     form_of task        the form of the parameters that the task is about
 --     opening words       the parts of the command line, the request in them, its parameters
 --     reads_input opening the input is read: not for a torus link, nor where the words are refused
-use Rattle.std.specs.Prelude.{ℕ, Bool, true, false, List, Option, Some, None, Result, Ok, Err}
+use Rattle.std.specs.Prelude.{ℕ, Bool, true, false, List, Option, Some, None, Result, Ok, Err, if◌then◌else◌}
 use Rattle.root_quantum.specs.Parameters.{Parameters}
+use Rattle.root_quantum.specs.declared.form.Form.{Form}
+use Rattle.root_quantum.specs.declared.form.Form.TheVariants.{All, Even}
 use Rattle.wrt_parts.specs.Texts.{Texts}
 use Rattle.wrt_words.specs.Words.{parts_of}
 use Rattle.wrt_request.specs.declared.request.Request.{Request}
 use Rattle.wrt_request.specs.declared.request.Task.{Task}
-use Rattle.wrt_request.specs.declared.request.Task.TheVariants.{Bracket, Colored, Net, Torus}
+use Rattle.wrt_request.specs.declared.request.Task.TheVariants.{Bracket, Colored, Net, Torus, Wrt, Moves, Braid}
 use Rattle.wrt_request.specs.declared.fault.PartsRefusal.{PartsRefusal}
 use Rattle.wrt_request.specs.Requests.{request_of}
 use Rattle.wrt_commands.specs.declared.opening.Opened.{Opened}
@@ -28,13 +31,23 @@ line_of None = Err (Words NoCommandLine)
 abbrev pub parts_refused : PartsRefusal → Refusal
 parts_refused refusal = Words (Parts refusal)
 
+-- The form of the parameters: the even one for even colours alone.
+abbrev pub form_of : Task → Form
+form_of (Bracket sweep) = All
+form_of (Colored colours sweep) = All
+form_of (Net colours sweep) = All
+form_of (Torus crossings sweep) = All
+form_of (Wrt framings workers even sweep) = if even then Even else All
+form_of (Moves framings) = All
+form_of Braid = All
+
 -- The task of a request at its parameters.
 abbrev pub opened : Task → Parameters → Result Opened Refusal
 opened task p = Ok (record { params = p; task = task })
 
 -- What a request comes to.
 abbrev pub with_request : Request → Result Opened Refusal
-with_request request = after (refused_as ParametersRefused (parameters_of request.numbers)) (opened request.task)
+with_request request = after (refused_as ParametersRefused (parameters_of (form_of request.task) request.numbers)) (opened request.task)
 
 -- What the parts of a command line come to.
 abbrev pub with_texts : Texts → Result Opened Refusal
@@ -44,12 +57,15 @@ with_texts texts = after (refused_as parts_refused (request_of texts)) with_requ
 abbrev pub opening : List (List ℕ) → Result Opened Refusal
 opening words = after (line_of (parts_of words)) with_texts
 
--- The task is about a diagram on the input.
+-- The task is about an input.
 abbrev pub is_about_input : Task → Bool
 is_about_input (Bracket sweep) = true
 is_about_input (Colored colours sweep) = true
 is_about_input (Net colours sweep) = true
 is_about_input (Torus crossings sweep) = false
+is_about_input (Wrt framings workers even sweep) = true
+is_about_input (Moves framings) = true
+is_about_input Braid = true
 
 -- The input is read.
 abbrev pub reads_input : Result Opened Refusal → Bool

@@ -18,6 +18,7 @@ text_of_parts (parts.Takes numbers) = codes "the command takes " ++ decimal numb
 text_of_parts (parts.Number position) = codes "number " ++ decimal position ++ codes " is not a decimal number below 2^64"
 text_of_parts (parts.Option option) = codes "option --" ++ name_of option ++ codes " does not belong to this command"
 text_of_parts (parts.List option) = codes "list of --" ++ name_of option ++ codes " refused"
+text_of_parts parts.Workers = codes "workers are 1 to 64"
 text_of_parts parts.Crossings = codes "crossings are 1 to 256"
 
 abbrev pub text_of_words : WordsRefusal → List ℕ

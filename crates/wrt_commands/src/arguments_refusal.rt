@@ -17,6 +17,10 @@ pub enum ArgumentsRefusal {
     Unequal { edge: u32 },
     /// The colours at this vertex aren't admissible: the first such vertex, numbered from 1.
     NotAdmissible { vertex: u32 },
+    /// So many framings are given, and as many are wanted as there are components.
+    FramingCount { given: usize, wanted: u32 },
+    /// The framing of this component is past 2^60 in size: the first such component, numbered from 1.
+    FramingSize { component: u32 },
     /// The list of the order doesn't name each item that has places once, and nothing else; `items` of
     /// them have.
     Order { items: u32 },
@@ -45,6 +49,12 @@ impl fmt::Display for ArgumentsRefusal {
             ArgumentsRefusal::Unequal { edge } => write!(f, "edge {edge} changes its colour"),
             ArgumentsRefusal::NotAdmissible { vertex } => {
                 write!(f, "vertex {vertex} is not admissible")
+            }
+            ArgumentsRefusal::FramingCount { given, wanted } => {
+                write!(f, "{given} framings given, {wanted} wanted")
+            }
+            ArgumentsRefusal::FramingSize { component } => {
+                write!(f, "framing of component {component} is out of range")
             }
             ArgumentsRefusal::Order { items } => {
                 write!(f, "order does not name each of {items} items once")

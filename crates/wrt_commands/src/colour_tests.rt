@@ -3,6 +3,7 @@
 //! theta and tetrahedral nets.
 
 use crate::{Status, run};
+use colour_share::NoGate;
 use skein_io::{MemorySink, MemorySource};
 use std::test::Fail;
 
@@ -388,7 +389,15 @@ fn coloured_rows(rt: HostRuntime) -> Result<(), Fail> {
         let mut source = MemorySource::new(rt.alloc(), input, 256, &[])?;
         let mut out = MemorySink::new(rt.alloc(), 256, 256, &[])?;
         let mut err = MemorySink::new(rt.alloc(), 256, 256, &[])?;
-        let answer = run(rt.alloc(), words, &mut source, &mut out, &mut err);
+        let answer = run(
+            &rt,
+            rt.alloc(),
+            words,
+            &mut source,
+            &mut out,
+            &mut err,
+            &NoGate,
+        );
         assert!(rt;
             answer == status && out.bytes() == report && err.bytes() == line,
             "{words:?}"

@@ -30,7 +30,7 @@ pub(crate) fn check_planar(alloc: Global, diagram: Diagram) -> Result<Planar, St
 }
 
 /// The report of a residue.
-fn residue_report(alloc: Global, residue: u64) -> Result<String, AllocError>
+pub(crate) fn residue_report(alloc: Global, residue: u64) -> Result<String, AllocError>
     ensures { IfOk result (λ report. string_bytes report ≡ report_of residue None) }
 {
     format!(in alloc; "{residue}\n")

@@ -1,12 +1,15 @@
-//! The input: its bytes, and the diagram or the net that they spell.
+//! The input: its bytes, and the diagram, the net or the script that they spell.
 
-ghost use Rattle.std.specs.Prelude.{◌≡◌, ◌≢◌, ◌≤◌, Err, MatchResult, OnOk};
+ghost use Rattle.std.specs.Prelude.{◌≡◌, ◌≢◌, ◌≤◌, Err, IfOk, MatchResult, OnOk, length};
+ghost use Rattle.pd_reader.specs.Diagrams.{labels};
+ghost use Rattle.pd_reader.specs.Items.{item_labels};
+ghost use Rattle.planar_check.specs.Components.{greatest};
 ghost use Rattle.skein_io.specs.Faults.{Rose};
 ghost use Rattle.skein_io.specs.Source.{IsSuffix};
-ghost use Rattle.wrt_commands.specs.Inputs.{IsNetTextOutcome, IsPdOutcome};
+ghost use Rattle.wrt_commands.specs.Inputs.{IsNetTextOutcome, IsPdOutcome, IsScriptTextOutcome};
 ghost use Rattle.wrt_commands.specs.Runs.{IsAtEnd, IsRead, IsUnread};
 ghost use Rattle.wrt_commands.specs.Stops.{Answers};
-ghost use Rattle.wrt_commands.specs.TextRefusals.{stop_of_text};
+ghost use Rattle.wrt_commands.specs.TextRefusals.{counted_in, stop_of_text};
 ghost use Rattle.wrt_commands.specs.declared.stop.Stop.TheVariants as stops;
 
 use crate::refusal::Refusal;
@@ -14,6 +17,7 @@ use crate::stop::Stop;
 use crate::text_refusal::{Counted, TextRefusal};
 use crate::too_long::TooLong;
 use pd_reader::{Diagram, NetDiagram, TextFault, read_net, read_pd};
+use script_reader::{MOST_STEPS, Script, read_script};
 use skein_io::{ReadAll, Source, read_all};
 use std::alloc::Global;
 
@@ -66,5 +70,30 @@ pub(crate) fn read_net_input(alloc: Global, bytes: &[u8]) -> Result<NetDiagram, 
     match read_net(alloc, bytes) {
         Ok(net) => Ok(net),
         Err(fault) => Err(refused_text(fault, Counted::Items)),
+    }
+}
+
+/// What a limit of a script's text counts, where it is past one.
+fn counted_in(fault: &TextFault) -> Counted
+    ensures { result ≡ counted_in fault.now }
+{
+    match fault {
+        TextFault::TooMany { limit } if *limit == MOST_STEPS => Counted::Steps,
+        _ => Counted::Items,
+    }
+}
+
+/// The script that the bytes spell.
+pub(crate) fn read_script_input(alloc: Global, bytes: &[u8]) -> Result<Script, Stop>
+    ensures answer { Answers (IsScriptTextOutcome bytes.now) (λ script. script) result }
+    ensures labels { IfOk result (λ script. greatest (labels item_labels script.diagram) ≤ 999999) }
+    ensures steps { IfOk result (λ script. length script.steps ≤ MOST_STEPS) }
+{
+    match read_script(alloc, bytes) {
+        Ok(script) => Ok(script),
+        Err(fault) => {
+            let counted = counted_in(&fault);
+            Err(refused_text(fault, counted))
+        }
     }
 }

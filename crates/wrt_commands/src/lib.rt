@@ -3,15 +3,24 @@
 
 mod arguments_refusal;
 mod bracket;
+mod braid;
+mod braid_refusal;
+#[cfg(test)]
+mod braid_tests;
 mod colored;
 mod colour_fits;
 #[cfg(test)]
 mod colour_tests;
 mod coloured_report;
 mod diagram_report;
+mod framing_fits;
 mod input;
 mod item_order;
 mod laws;
+mod moves;
+mod moves_report;
+#[cfg(test)]
+mod moves_tests;
 mod net;
 mod net_report;
 mod opening;
@@ -19,8 +28,12 @@ mod parameters;
 mod parameters_refusal;
 mod plane_refusal;
 mod refusal;
+mod script_refusal;
 mod status;
 mod stop;
+mod surgery_report;
+#[cfg(test)]
+mod surgery_tests;
 #[cfg(test)]
 mod tests;
 mod text_refusal;
@@ -29,11 +42,14 @@ mod top;
 mod torus;
 mod value_refusal;
 mod words_refusal;
+mod wrt;
 
 pub use arguments_refusal::ArgumentsRefusal;
+pub use braid_refusal::BraidRefusal;
 pub use laws::{
-    one_residue, outcomes_are_unique, outcomes_exist, reports_are_of_brackets,
-    reports_are_of_coloured_values, reports_are_of_net_values,
+    outcomes_are_unique, outcomes_exist, reports_are_of_brackets, reports_are_of_braid_traces,
+    reports_are_of_coloured_values, reports_are_of_net_values, reports_are_of_surgery_values,
+    same_residues,
 };
 pub use parameters::read_parameters;
 pub use parameters_refusal::ParametersRefusal;

@@ -4,7 +4,7 @@ ghost use Rattle.std.specs.Prelude.{◌≡◌, ◌≢◌, true, Err, IfOk, map};
 ghost use Rattle.wrt_parts.specs.Texts.{texts_of};
 ghost use Rattle.wrt_request.specs.Requests.{IsInRange};
 ghost use Rattle.wrt_words.specs.Words.{command_line, takes_line};
-ghost use Rattle.wrt_commands.specs.Openings.{opening, with_request, with_texts};
+ghost use Rattle.wrt_commands.specs.Openings.{form_of, opening, with_request, with_texts};
 ghost use Rattle.wrt_commands.specs.Stops.{Answers, Is};
 ghost use Rattle.wrt_commands.specs.declared.refusal.Refusal.TheVariants as refusals;
 ghost use Rattle.wrt_commands.specs.declared.stop.Stop.TheVariants as stops;
@@ -14,7 +14,7 @@ use crate::parameters::read_parameters;
 use crate::refusal::Refusal;
 use crate::stop::Stop;
 use crate::words_refusal::WordsRefusal;
-use root_quantum::Params;
+use root_quantum::{Form, Params};
 use std::alloc::Global;
 use wrt_parts::Parts;
 use wrt_request::{PartsFault, Request, Task, read_request};
@@ -27,6 +27,22 @@ pub(crate) struct Opened {
     pub(crate) task: Task,
 }
 
+/// The form of the parameters: the even one for even colours alone.
+fn form_of(task: &Task) -> Form
+    ensures { result ≡ form_of task.now }
+{
+    match task {
+        Task::Wrt { even: true, .. } => Form::Even,
+        Task::Bracket { .. }
+        | Task::Colored { .. }
+        | Task::Net { .. }
+        | Task::Torus { .. }
+        | Task::Wrt { even: false, .. }
+        | Task::Moves { .. }
+        | Task::Braid => Form::All,
+    }
+}
+
 /// The task of a request, at its parameters.
 fn open_request(request: Request) -> Result<Opened, Refusal>
     requires { IsInRange request.task }
@@ -34,7 +50,7 @@ fn open_request(request: Request) -> Result<Opened, Refusal>
     ensures in_range { IfOk result (λ opened. IsInRange opened.task) }
 {
     let Request { task, numbers } = request;
-    match read_parameters(&numbers) {
+    match read_parameters(&numbers, form_of(&task)) {
         Ok(params) => Ok(Opened { params, task }),
         Err(refusal) => Err(Refusal::Parameters(refusal)),
     }

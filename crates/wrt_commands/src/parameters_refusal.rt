@@ -15,8 +15,20 @@ pub enum ParametersRefusal {
     Root,
     /// R is out of range.
     Level,
+    /// R is even, in the even form.
+    EvenLevel,
     /// The least power of A that is 1 is `found`, or there is none up to `wanted`.
-    Order { found: Option<u32>, wanted: u32 },
+    Order {
+        found: Option<u32>,
+        wanted: u32,
+    },
+    /// In the even form, the least power of A that is 1 is `found`, or there is none up to `greater`; wanted are `greater`
+    /// or `lesser`.
+    EvenOrder {
+        found: Option<u32>,
+        greater: u32,
+        lesser: u32,
+    },
 }
 
 impl ParametersRefusal {
@@ -36,6 +48,7 @@ impl fmt::Display for ParametersRefusal {
             ParametersRefusal::Modulus => write!(f, "modulus is out of range"),
             ParametersRefusal::Root => write!(f, "root is out of range"),
             ParametersRefusal::Level => write!(f, "level is not 3 to 10"),
+            ParametersRefusal::EvenLevel => write!(f, "level is not odd"),
             ParametersRefusal::Order {
                 found: Some(found),
                 wanted,
@@ -44,6 +57,16 @@ impl fmt::Display for ParametersRefusal {
                 found: None,
                 wanted,
             } => write!(f, "no order up to {wanted}, wanted {wanted}"),
+            ParametersRefusal::EvenOrder {
+                found: Some(found),
+                greater,
+                lesser,
+            } => write!(f, "order is {found}, wanted {greater} or {lesser}"),
+            ParametersRefusal::EvenOrder {
+                found: None,
+                greater,
+                lesser,
+            } => write!(f, "no order up to {greater}, wanted {greater} or {lesser}"),
         }
     }
 }

@@ -4,13 +4,16 @@ ghost use Rattle.std.specs.Prelude.{◌≡◌, Some};
 ghost use Rattle.wrt_commands.specs.Refusals.{status_of, text_of};
 
 use crate::arguments_refusal::ArgumentsRefusal;
+use crate::braid_refusal::BraidRefusal;
 use crate::parameters_refusal::ParametersRefusal;
 use crate::plane_refusal::PlaneRefusal;
+use crate::script_refusal::script_status;
 use crate::status::Status;
 use crate::text_refusal::TextRefusal;
 use crate::too_long::TooLong;
 use crate::value_refusal::value_status;
 use crate::words_refusal::WordsRefusal;
+use script_values::ScriptRefusal;
 use std::fmt;
 use wrt_values::ValueRefusal;
 
@@ -25,12 +28,16 @@ pub enum Refusal {
     TooLong(TooLong),
     /// The text is refused, or its items are.
     Text(TextRefusal),
+    /// The text is one of a braid past the limits, or with an entry that is no crossing.
+    Braid(BraidRefusal),
     /// The diagram is not planar.
     Plane(PlaneRefusal),
     /// An argument of the words doesn't fit the diagram.
     Arguments(ArgumentsRefusal),
     /// The diagram has no value within the limits.
     Value(ValueRefusal),
+    /// A step of the script can't be made, or one of its diagrams has no value within the limits.
+    Script(ScriptRefusal),
 }
 
 impl Refusal {
@@ -43,9 +50,11 @@ impl Refusal {
             Refusal::Parameters(refusal) => refusal.status(),
             Refusal::TooLong(refusal) => refusal.status(),
             Refusal::Text(refusal) => refusal.status(),
+            Refusal::Braid(refusal) => refusal.status(),
             Refusal::Plane(refusal) => refusal.status(),
             Refusal::Arguments(refusal) => refusal.status(),
             Refusal::Value(refusal) => value_status(refusal),
+            Refusal::Script(refusal) => script_status(refusal),
         }
     }
 }
@@ -60,9 +69,11 @@ impl fmt::Display for Refusal {
             Refusal::Parameters(refusal) => write!(f, "{refusal}"),
             Refusal::TooLong(refusal) => write!(f, "{refusal}"),
             Refusal::Text(refusal) => write!(f, "{refusal}"),
+            Refusal::Braid(refusal) => write!(f, "{refusal}"),
             Refusal::Plane(refusal) => write!(f, "{refusal}"),
             Refusal::Arguments(refusal) => write!(f, "{refusal}"),
             Refusal::Value(refusal) => write!(f, "{refusal}"),
+            Refusal::Script(refusal) => write!(f, "{refusal}"),
         }
     }
 }

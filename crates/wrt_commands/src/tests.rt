@@ -4,10 +4,12 @@
 ghost use Rattle.std.specs.Prelude.{◌≡◌};
 
 use crate::{Status, run};
+use colour_share::NoGate;
 use residue_ring::Ring;
 use skein_io::{MemorySink, MemorySource};
 use std::process::Abort;
 use std::test::Fail;
+use std::thread::Threads;
 
 /// Words, an input and the report that is wanted.
 type Report = (&'static [&'static str], &'static [u8], &'static [u8]);
@@ -21,7 +23,7 @@ type Fault = (
 );
 
 /// Words, an input, the calls of the source and the two sinks that fail (0: none), the status and what stands on the sinks.
-type Stream = (
+pub(crate) type Stream = (
     &'static [&'static str],
     &'static [u8],
     [u64; 3],
@@ -310,7 +312,7 @@ const NO_LINES: [&[&str]; 9] = [
     &["--turns"],
     &["--help"],
     &["bracket", "41", "2", "5", "-h"],
-    &["bracket", "41", "2", "5", "--even"],
+    &["bracket", "41", "2", "5", "--evens"],
     &["bracket", "41", "2", "-5"],
     &["bracket", "41", "2", "5", "--order"],
     &["bracket", "41", "2", "5", "--order=1", "--order=1"],
@@ -358,12 +360,23 @@ const STREAMS: [Stream; 14] = [
 ];
 
 /// A run over streams with those calls that fail ends with that status, and leaves that on the sinks.
-fn check(rt: &(impl Abort + AllocGlobal), row: Stream) -> Result<(), Fail> {
+pub(crate) fn check(
+    rt: &(impl Abort + AllocGlobal + Threads + Sync),
+    row: Stream,
+) -> Result<(), Fail> {
     let (words, input, [read, write, error], status, report, line) = row;
     let mut source = MemorySource::new(rt.alloc(), input, 8, &[read])?;
     let mut out = MemorySink::new(rt.alloc(), 256, 1, &[write])?;
     let mut err = MemorySink::new(rt.alloc(), 256, 3, &[error])?;
-    let answer = run(rt.alloc(), words, &mut source, &mut out, &mut err);
+    let answer = run(
+        rt,
+        rt.alloc(),
+        words,
+        &mut source,
+        &mut out,
+        &mut err,
+        &NoGate,
+    );
     assert!(rt;
         answer == status && out.bytes() == report && err.bytes() == line,
         "{words:?}"
@@ -400,8 +413,8 @@ fn streams_that_fail(rt: HostRuntime) -> Result<(), Fail> {
 }
 
 /// A run on this input, with words that are taken, ends with that status, and leaves that report.
-fn check_plain(
-    rt: &(impl Abort + AllocGlobal),
+pub(crate) fn check_plain(
+    rt: &(impl Abort + AllocGlobal + Threads + Sync),
     words: &[&str],
     input: &[u8],
     status: Status,
@@ -410,7 +423,15 @@ fn check_plain(
     let mut source = MemorySource::new(rt.alloc(), input, 65_536, &[])?;
     let mut out = MemorySink::new(rt.alloc(), 256, 256, &[])?;
     let mut err = MemorySink::new(rt.alloc(), 256, 256, &[])?;
-    let answer = run(rt.alloc(), words, &mut source, &mut out, &mut err);
+    let answer = run(
+        rt,
+        rt.alloc(),
+        words,
+        &mut source,
+        &mut out,
+        &mut err,
+        &NoGate,
+    );
     assert!(rt; answer == status && out.bytes() == report, "{words:?}");
     Ok(())
 }

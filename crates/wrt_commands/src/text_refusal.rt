@@ -12,6 +12,8 @@ use std::fmt;
 pub enum Counted {
     /// The items of a diagram.
     Items,
+    /// The steps of a script.
+    Steps,
 }
 
 impl fmt::Display for Counted {
@@ -20,6 +22,7 @@ impl fmt::Display for Counted {
     fn fmt<W: fmt::Write>(&self, f: &mut fmt::Formatter<W>) -> fmt::Result {
         match self {
             Counted::Items => write!(f, "items"),
+            Counted::Steps => write!(f, "steps"),
         }
     }
 }

@@ -14,19 +14,30 @@ ghost use Rattle.wrt_commands.specs.declared.stop.Stop.TheVariants as stops;
 ghost use Rattle.wrt_commands.specs.declared.words_refusal.WordsRefusal.TheVariants as words_refusals;
 
 use crate::bracket::bracket_report;
+use crate::braid::closed_braid_report;
 use crate::colored::colored_report;
 use crate::input::read_input;
+use crate::moves::script_report;
 use crate::net::coloured_net_report;
 use crate::opening::{Opened, open_words};
 use crate::status::Status;
 use crate::stop::Stop;
 use crate::torus::torus_report;
+use crate::wrt::wrt_report;
+use colour_share::Gate;
 use skein_io::{Sink, Source, Wrote, write_all};
 use std::alloc::{AllocError, Global};
+use std::thread::Threads;
 use wrt_request::Task;
 
 /// The report of what is asked for, of the input that the source gives or of a diagram of its own.
-fn task_report<S: Source>(alloc: Global, opened: &Opened, source: &mut S) -> Result<String, Stop>
+fn task_report<R: Threads + Sync, S: Source, G: Gate + Sync>(
+    rt: &R,
+    alloc: Global,
+    opened: &Opened,
+    source: &mut S,
+    gate: &G,
+) -> Result<String, Stop>
     requires { IsInRange opened.now.task }
     ensures answer { (bytes : List ℕ) × IsTold (S.left source.old) bytes × MatchResult result (λ report. IsOutcomeAt (Ok opened.now) bytes (Ok (string_bytes report)))
         (IsStoppedAt (Ok opened.now) bytes) }
@@ -51,11 +62,43 @@ fn task_report<S: Source>(alloc: Global, opened: &Opened, source: &mut S) -> Res
             coloured_net_report(alloc, &opened.params, colours.members(), sweep, &bytes)
         }
         Task::Torus { crossings, sweep } => torus_report(alloc, &opened.params, *crossings, sweep),
+        Task::Wrt {
+            framings,
+            workers,
+            sweep,
+            ..
+        } => {
+            let bytes = read_input(alloc, source)?;
+            wrt_report(
+                rt,
+                alloc,
+                &opened.params,
+                framings,
+                *workers,
+                sweep,
+                &bytes,
+                gate,
+            )
+        }
+        Task::Moves { framings } => {
+            let bytes = read_input(alloc, source)?;
+            script_report(rt, alloc, &opened.params, framings, &bytes, gate)
+        }
+        Task::Braid => {
+            let bytes = read_input(alloc, source)?;
+            closed_braid_report(alloc, &opened.params, &bytes)
+        }
     }
 }
 
 /// The report of what the words ask for.
-fn report<S: Source>(alloc: Global, words: &[&str], source: &mut S) -> Result<String, Stop>
+fn report<R: Threads + Sync, S: Source, G: Gate + Sync>(
+    rt: &R,
+    alloc: Global,
+    words: &[&str],
+    source: &mut S,
+    gate: &G,
+) -> Result<String, Stop>
     ensures answer { (bytes : List ℕ) × IsTold (S.left source.old) bytes × MatchResult result (λ report. IsOutcome (map (λ s. s.now) words.now) bytes (Ok (string_bytes report)))
         (IsStopped (map (λ s. s.now) words.now) bytes) }
     ensures taken { takes_line (command_line (map (λ s. s.now) words.now)) ≡ true → result ≢ Err (stops.Refused (refusals.Words words_refusals.NoCommandLine)) }
@@ -67,7 +110,7 @@ fn report<S: Source>(alloc: Global, words: &[&str], source: &mut S) -> Result<St
     ensures unread { reads_input (opening (map (λ s. s.now) words.now)) ≡ false → (S.left source.new ≡ S.left source.old) × (S.faults source.new ≡ S.faults source.old) }
 {
     let opened = open_words(alloc, words)?;
-    task_report(alloc, &opened, source)
+    task_report(rt, alloc, &opened, source, gate)
 }
 
 /// The fault line of the stop.
@@ -108,12 +151,16 @@ fn tell<E: Sink>(alloc: Global, err: &mut E, stop: &Stop) -> Status
 
 /// Does what the words after the program's name ask for: reads `source`, writes the report to `out` in
 /// one piece after everything was computed, or a fault line to `err`, and gives the status.
-pub fn run<S: Source, K: Sink, E: Sink>(
+///
+/// The workers of a surgery value are threads of `rt`, and pass `gate` before each colouring; neither changes what is written.
+pub fn run<R: Threads + Sync, S: Source, K: Sink, E: Sink, G: Gate + Sync>(
+    rt: &R,
     alloc: Global,
     words: &[&str],
     source: &mut S,
     out: &mut K,
     err: &mut E,
+    gate: &G,
 ) -> Status
     // The status, and what stands on `out` and `err`, are those of the outcome of the words and of the bytes that
     // the source tells, or of some bytes where it tells none; and the outcome of these settles the status, but for
@@ -150,7 +197,7 @@ pub fn run<S: Source, K: Sink, E: Sink>(
         → ¬ Rose (S.faults source.old) (S.faults source.new) → ¬ Rose (K.faults out.old) (K.faults out.new)
         → (result ≡ Status.Done) ⊎ (result ≡ Status.Memory) }
 {
-    match report(alloc, words, source) {
+    match report(rt, alloc, words, source, gate) {
         Ok(report) => match write_all(out, report.as_bytes()) {
             Ok(()) => Status::Done,
             Err(Wrote::Fault { .. }) => {

@@ -11,7 +11,10 @@ pub(crate) fn value_status(refusal: &ValueRefusal) -> Status
     ensures { result ≡ status_of_value refusal.now }
 {
     match refusal {
-        ValueRefusal::NoInverse { .. } => Status::NoInverse,
-        ValueRefusal::Wide { .. } | ValueRefusal::Table { .. } => Status::Limit,
+        ValueRefusal::NoInverse { .. } | ValueRefusal::NoOmegaInverse { .. } => Status::NoInverse,
+        ValueRefusal::TooMany { .. }
+        | ValueRefusal::Inertia { .. }
+        | ValueRefusal::Wide { .. }
+        | ValueRefusal::Table { .. } => Status::Limit,
     }
 }

@@ -44,6 +44,7 @@ impl fmt::Display for WordsRefusal {
                 write!(f, "option --{option} does not belong to this command")
             }
             PartsRefusal::List { option } => write!(f, "list of --{option} refused"),
+            PartsRefusal::Workers => write!(f, "workers are 1 to 64"),
             PartsRefusal::Crossings => write!(f, "crossings are 1 to 256"),
         }
     }

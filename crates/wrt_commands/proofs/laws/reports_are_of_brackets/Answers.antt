@@ -1,4 +1,4 @@
-use Rattle.wrt_commands.proofs.OneResidue.{reports_are_of_brackets_law}
+use Rattle.wrt_commands.proofs.ReportedValues.{reports_are_of_brackets_law}
 use Rattle.wrt_commands.proofs.laws.reports_are_of_brackets.Goals as goal
 
 pub returns : goal.returns

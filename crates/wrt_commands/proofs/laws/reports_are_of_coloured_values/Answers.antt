@@ -1,4 +1,4 @@
-use Rattle.wrt_commands.proofs.OneResidue.{reports_are_of_coloured_values_law}
+use Rattle.wrt_commands.proofs.ReportedValues.{reports_are_of_coloured_values_law}
 use Rattle.wrt_commands.proofs.laws.reports_are_of_coloured_values.Goals as goal
 
 pub returns : goal.returns

@@ -14,3 +14,6 @@ returns-in-NotAdmissible-clause-writes g c = λ plain ok. rw c.in-NotAdmissible.
 
 pub returns-in-Order-clause-writes : goal.returns-in-Order-clause-writes
 returns-in-Order-clause-writes g c = λ plain ok. rw c.in-Order.is (c.write-in-Order.ensures.writes plain ok)
+
+pub returns-in-FramingCount-clause-writes : goal.returns-in-FramingCount-clause-writes
+returns-in-FramingCount-clause-writes g c = λ plain ok. rw c.in-FramingCount.is (c.write-in-FramingCount.ensures.writes plain ok)
