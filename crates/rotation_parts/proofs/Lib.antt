@@ -1,0 +1,11 @@
+pub mod Steps
+pub mod Exchange
+pub mod FlatEdges
+pub mod CutVertices
+pub mod Retracts
+pub mod Matches
+pub mod Pairings
+pub mod Curls
+pub mod Subdivisions
+pub mod Pushes
+mod Examples

@@ -1,0 +1,92 @@
+-- What is drawn into a rotation system whose pairing is a function: other is the pairing before, drawn the one after.
+--
+--     IsCurl names turn other drawn p q a b c d        a vertex of four names, two of them paired, in the edge between p and q
+--     IsSubdivision names turn other drawn p q u v     a vertex of two names in the edge between p and q
+--     IsPush n turn other drawn e1 e3 f1 f3            one edge pushed over another, by two vertices of four names
+use Rattle.std.specs.Prelude.{◌≡◌, ◌≢◌, ◌<◌, ℕ, ◌+◌, ◌==◌, true, false, List}
+use Rattle.std.specs.Set.{is_member}
+
+-- a vertex of four names drawn into the edge between p and q
+--
+--          c-----d           p - a, q - b, c - d; the names turn a, b, c, d
+--           \   /
+--            \ /
+--            / \
+--     p --- a   b --- q
+pub record IsCurl (names : List ℕ) (turn other drawn : ℕ → ℕ) (p q a b c d : ℕ) : Type 0 where
+  pub has_p : is_member ◌==◌ names p ≡ true
+  pub has_q : is_member ◌==◌ names q ≡ true
+  pub pq : other p ≡ q
+  pub qp : other q ≡ p
+  pub turn_in : (x : ℕ) → is_member ◌==◌ names x ≡ true → is_member ◌==◌ names (turn x) ≡ true
+  pub other_in : (x : ℕ) → is_member ◌==◌ names x ≡ true → is_member ◌==◌ names (other x) ≡ true
+  pub new_a : is_member ◌==◌ names a ≡ false
+  pub new_b : is_member ◌==◌ names b ≡ false
+  pub new_c : is_member ◌==◌ names c ≡ false
+  pub new_d : is_member ◌==◌ names d ≡ false
+  pub distinct : (a ≢ b) × (a ≢ c) × (a ≢ d) × (b ≢ c) × (b ≢ d) × (c ≢ d)
+  pub ta : turn a ≡ b
+  pub tb : turn b ≡ c
+  pub tc : turn c ≡ d
+  pub td : turn d ≡ a
+  pub dp : drawn p ≡ a
+  pub da : drawn a ≡ p
+  pub dq : drawn q ≡ b
+  pub db : drawn b ≡ q
+  pub dc : drawn c ≡ d
+  pub dd : drawn d ≡ c
+  pub kept : (x : ℕ) → is_member ◌==◌ names x ≡ true → x ≢ p → x ≢ q → drawn x ≡ other x
+
+-- a vertex of two names drawn into the edge between p and q: p - u, v - q
+pub record IsSubdivision (names : List ℕ) (turn other drawn : ℕ → ℕ) (p q u v : ℕ) : Type 0 where
+  pub has_p : is_member ◌==◌ names p ≡ true
+  pub has_q : is_member ◌==◌ names q ≡ true
+  pub pq : other p ≡ q
+  pub qp : other q ≡ p
+  pub turn_in : (x : ℕ) → is_member ◌==◌ names x ≡ true → is_member ◌==◌ names (turn x) ≡ true
+  pub other_in : (x : ℕ) → is_member ◌==◌ names x ≡ true → is_member ◌==◌ names (other x) ≡ true
+  pub new_u : is_member ◌==◌ names u ≡ false
+  pub new_v : is_member ◌==◌ names v ≡ false
+  pub distinct : u ≢ v
+  pub tu : turn u ≡ v
+  pub tv : turn v ≡ u
+  pub dp : drawn p ≡ u
+  pub du : drawn u ≡ p
+  pub dq : drawn q ≡ v
+  pub dv : drawn v ≡ q
+  pub kept : (x : ℕ) → is_member ◌==◌ names x ≡ true → x ≢ p → x ≢ q → drawn x ≡ other x
+
+-- one edge pushed over another: below n stand the old places, from n on the slots of the first new crossing, from n + 4 on those of the second
+pub record IsPush (n : ℕ) (turn other drawn : ℕ → ℕ) (e1 e3 f1 f3 : ℕ) : Type 0 where
+  pub le1 : e1 < n
+  pub le3 : e3 < n
+  pub lf1 : f1 < n
+  pub lf3 : f3 < n
+  pub ee : other e1 ≡ e3
+  pub ee_back : other e3 ≡ e1
+  pub ff : other f1 ≡ f3
+  pub ff_back : other f3 ≡ f1
+  pub apart : (e3 ≢ e1) × (e3 ≢ f1) × (f3 ≢ e1) × (f3 ≢ f1) × (f1 ≢ e1)
+  pub turn_in : (x : ℕ) → x < n → turn x < n
+  pub other_in : (x : ℕ) → x < n → other x < n
+  pub t0 : turn (n + 0) ≡ n + 1
+  pub t1 : turn (n + 1) ≡ n + 2
+  pub t2 : turn (n + 2) ≡ n + 3
+  pub t3 : turn (n + 3) ≡ n + 0
+  pub t4 : turn (n + 4) ≡ n + 5
+  pub t5 : turn (n + 5) ≡ n + 6
+  pub t6 : turn (n + 6) ≡ n + 7
+  pub t7 : turn (n + 7) ≡ n + 4
+  pub d0 : drawn (n + 0) ≡ n + 6
+  pub d1 : drawn (n + 1) ≡ e1
+  pub d2 : drawn (n + 2) ≡ f3
+  pub d3 : drawn (n + 3) ≡ n + 7
+  pub d4 : drawn (n + 4) ≡ f1
+  pub d5 : drawn (n + 5) ≡ e3
+  pub d6 : drawn (n + 6) ≡ n + 0
+  pub d7 : drawn (n + 7) ≡ n + 3
+  pub de1 : drawn e1 ≡ n + 1
+  pub df3 : drawn f3 ≡ n + 2
+  pub df1 : drawn f1 ≡ n + 4
+  pub de3 : drawn e3 ≡ n + 5
+  pub kept : (x : ℕ) → x < n → x ≢ e1 → x ≢ e3 → x ≢ f1 → x ≢ f3 → drawn x ≡ other x

@@ -1,0 +1,4 @@
+pub mod Rotations
+pub mod GraphMaps
+pub mod Drawings
+pub mod Laws
