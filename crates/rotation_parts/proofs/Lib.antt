@@ -6,6 +6,8 @@ pub mod Retracts
 pub mod Matches
 pub mod Pairings
 pub mod Curls
+pub mod PairForms
 pub mod Subdivisions
+pub mod PassedVertices
 pub mod Pushes
 mod Examples

@@ -3,8 +3,11 @@
 --     IsCurl names turn other drawn p q a b c d        a vertex of four names, two of them paired, in the edge between p and q
 --     IsSubdivision names turn other drawn p q u v     a vertex of two names in the edge between p and q
 --     IsPush n turn other drawn e1 e3 f1 f3            one edge pushed over another, by two vertices of four names
-use Rattle.std.specs.Prelude.{◌≡◌, ◌≢◌, ◌<◌, ℕ, ◌+◌, ◌==◌, true, false, List}
+--     passed u v other                                 the pairing where the names u and v are passed by
+--     IsVertexOfTwo names turn other u v               u and v are a vertex beside the names
+use Rattle.std.specs.Prelude.{◌≡◌, ◌≢◌, ◌<◌, ℕ, ◌+◌, ◌==◌, if◌then◌else◌, true, false, List, ◌∷◌}
 use Rattle.std.specs.Set.{is_member}
+use Rattle.rotation_parts.specs.Rotations.{IsPairingOf}
 
 -- a vertex of four names drawn into the edge between p and q
 --
@@ -90,3 +93,17 @@ pub record IsPush (n : ℕ) (turn other drawn : ℕ → ℕ) (e1 e3 f1 f3 : ℕ)
   pub df1 : drawn f1 ≡ n + 4
   pub de3 : drawn e3 ≡ n + 5
   pub kept : (x : ℕ) → x < n → x ≢ e1 → x ≢ e3 → x ≢ f1 → x ≢ f3 → drawn x ≡ other x
+
+-- what u and v were paired with is paired
+abbrev pub passed : ℕ → ℕ → (ℕ → ℕ) → ℕ → ℕ
+passed u v other x = if other x == u then other v else (if other x == v then other u else other x)
+
+-- a vertex of two names, u and v, beside the names; other pairs them all
+pub record IsVertexOfTwo (names : List ℕ) (turn other : ℕ → ℕ) (u v : ℕ) : Type 0 where
+  pub new_u : is_member ◌==◌ names u ≡ false
+  pub new_v : is_member ◌==◌ names v ≡ false
+  pub distinct : u ≢ v
+  pub tu : turn u ≡ v
+  pub tv : turn v ≡ u
+  pub turn_in : (x : ℕ) → is_member ◌==◌ names x ≡ true → is_member ◌==◌ names (turn x) ≡ true
+  pub pairing : IsPairingOf (u ∷ v ∷ names) other

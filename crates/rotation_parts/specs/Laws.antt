@@ -5,9 +5,9 @@ use Rattle.std.specs.Set.{is_member}
 use Rattle.graph_parts.specs.Ends.{AreAmong}
 use Rattle.graph_parts.specs.Parts.{part_count}
 use Rattle.graph_parts.specs.Walks.{Joined}
-use Rattle.rotation_parts.specs.Rotations.{exchanged, steps, cycle_count, follower, faces_of, pieces_of, IsFlat, IsPermutation, pair_graph}
+use Rattle.rotation_parts.specs.Rotations.{exchanged, steps, cycle_count, follower, faces_of, pieces_of, IsFlat, IsPermutation, IsPairing, paired_edges, pair_graph, IsFlatWith}
 use Rattle.rotation_parts.specs.GraphMaps.{IsRetract, AreMatched}
-use Rattle.rotation_parts.specs.Drawings.{IsCurl, IsSubdivision, IsPush}
+use Rattle.rotation_parts.specs.Drawings.{IsCurl, IsSubdivision, IsPush, passed, IsVertexOfTwo}
 
 -- A permutation after an exchange of two names has one cycle more where these lie in one cycle.
 abbrev pub ExchangeSplitsLaw : Type 0
@@ -80,3 +80,16 @@ PushCountsLaw =
     IsPermutation (range_with_len 0 n) (λ x. turn (other x)) back → Joined (steps (λ x. turn (other x)) (range_with_len 0 n)) e1 f1 →
     (cycle_count (range_with_len 0 (n + 8)) (λ x. turn (drawn x)) ≡ cycle_count (range_with_len 0 n) (λ x. turn (other x)) + 2)
     × (part_count (range_with_len 0 (n + 8)) (pair_graph (range_with_len 0 (n + 8)) turn drawn) ≡ part_count (range_with_len 0 n) (pair_graph (range_with_len 0 n) turn other))
+
+-- A system whose edges are given by a pairing of n names is flat exactly where 2 (V + F) = n + 4k.
+abbrev pub PairFormLaw : Type 0
+PairFormLaw =
+    (n : ℕ) (turn back other : ℕ → ℕ) → IsPermutation (range_with_len 0 n) turn back → IsPairing n other →
+    IsFlat (range_with_len 0 n) turn (paired_edges other (range_with_len 0 n))
+    ↔ (2 * (cycle_count (range_with_len 0 n) turn + cycle_count (range_with_len 0 n) (λ x. turn (other x))) ≡ n + 4 * part_count (range_with_len 0 n) (pair_graph (range_with_len 0 n) turn other))
+
+-- A vertex of two names that is taken away, also one that is a circle, keeps F - 2k.
+abbrev pub PassedVertexLaw : Type 0
+PassedVertexLaw =
+    (m : ℕ) (names : List ℕ) (turn other : ℕ → ℕ) (u v : ℕ) → IsVertexOfTwo names turn other u v →
+    IsFlatWith m (u ∷ v ∷ names) turn other ↔ IsFlatWith m names turn (passed u v other)

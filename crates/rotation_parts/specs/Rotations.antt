@@ -12,6 +12,7 @@
 --     IsPermutation names next back    next permutes the names, and back undoes it
 --     pair_graph names turn other      the graph of pieces, where the edges are given by each name's other one
 --     paired_edges other names         these edges as a list; IsPairing n other: they pair the names below n
+--     IsFlatWith m names turn other    F = m + 2k, where the pairing is a function; in a flat system m is E - V
 --
 -- The names 0 1 2 3 that turn in one cycle, with the edges (0,1) (2,3): V 1, E 2, k 1 and F 3: flat. With (0,2) (1,3) F is 1.
 use Rattle.std.specs.Prelude.{◌≡◌, ◌≢◌, ◌<◌, nat_lt, ℕ, ◌+◌, ◌*◌, ◌==◌, if◌then◌else◌, true, List, [], ◌∷◌, ◌++◌, length, map}
@@ -72,3 +73,13 @@ pub record IsPairing (n : ℕ) (other : ℕ → ℕ) : Type 0 where
   pub low : (p : ℕ) → p < n → other p < n
   pub apart : (p : ℕ) → p < n → other p ≢ p
   pub twice : (p : ℕ) → p < n → other (other p) ≡ p
+
+-- the same of a list of names
+pub record IsPairingOf (names : List ℕ) (other : ℕ → ℕ) : Type 0 where
+  pub inside : (x : ℕ) → is_member ◌==◌ names x ≡ true → is_member ◌==◌ names (other x) ≡ true
+  pub apart : (x : ℕ) → is_member ◌==◌ names x ≡ true → other x ≢ x
+  pub twice : (x : ℕ) → is_member ◌==◌ names x ≡ true → other (other x) ≡ x
+
+-- F = m + 2k, where the pairing is a function; in a flat system m is E - V
+abbrev pub IsFlatWith : ℕ → List ℕ → (ℕ → ℕ) → (ℕ → ℕ) → Type 0
+IsFlatWith m names turn other = cycle_count names (λ x. turn (other x)) ≡ m + 2 * part_count names (pair_graph names turn other)

@@ -1,6 +1,6 @@
 //! The laws of rotation systems: each function has an empty body, and its contract is the law. They are stated in `specs/Laws.antt`.
 
-ghost use Rattle.rotation_parts.specs.Laws.{ExchangeSplitsLaw, ExchangeMergesLaw, GenusLaw, WithoutEdgeLaw, OneMoreEdgeLaw, CutVertexLaw, RetractLaw, MatchedGraphsLaw, CurlCountsLaw, SubdivisionCountsLaw, PushCountsLaw};
+ghost use Rattle.rotation_parts.specs.Laws.{ExchangeSplitsLaw, ExchangeMergesLaw, GenusLaw, WithoutEdgeLaw, OneMoreEdgeLaw, CutVertexLaw, RetractLaw, MatchedGraphsLaw, CurlCountsLaw, SubdivisionCountsLaw, PushCountsLaw, PairFormLaw, PassedVertexLaw};
 
 /// A permutation after an exchange of two names of one cycle has one cycle more.
 pub fn exchange_splits()
@@ -55,4 +55,14 @@ pub fn subdivision_counts()
 /// An edge pushed over another from places of one face makes two faces more, and keeps the pieces.
 pub fn push_counts()
     ensures { PushCountsLaw }
+{}
+
+/// A system whose edges are given by a pairing of n names is flat exactly where 2 (V + F) = n + 4k.
+pub fn pair_form()
+    ensures { PairFormLaw }
+{}
+
+/// A vertex of two names that is taken away, also one that is a circle, keeps F - 2k.
+pub fn passed_vertex()
+    ensures { PassedVertexLaw }
 {}

@@ -1,0 +1,4 @@
+pub mod PlacePairs
+pub mod PlaceCounts
+pub mod PlanarForms
+mod Examples

@@ -1,0 +1,2 @@
+pub mod PlaceSystems
+pub mod Laws

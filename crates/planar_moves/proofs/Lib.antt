@@ -1,0 +1,3 @@
+pub mod CurledPlanes
+pub mod PushedPlanes
+pub mod BlownPlanes
