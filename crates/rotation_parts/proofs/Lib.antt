@@ -9,5 +9,7 @@ pub mod Curls
 pub mod PairForms
 pub mod Subdivisions
 pub mod PassedVertices
+pub mod OtherNames
+pub mod Slides
 pub mod Pushes
 mod Examples

@@ -5,6 +5,8 @@
 --     IsPush n turn other drawn e1 e3 f1 f3            one edge pushed over another, by two vertices of four names
 --     passed u v other                                 the pairing where the names u and v are passed by
 --     IsVertexOfTwo names turn other u v               u and v are a vertex beside the names
+--     IsSlide names turn turned other a0 .. c3         one side of a triangle slid over the vertex across from it
+--     IsRenamed names others turn other turned drawn f g    a system under other names
 use Rattle.std.specs.Prelude.{◌≡◌, ◌≢◌, ◌<◌, ℕ, ◌+◌, ◌==◌, if◌then◌else◌, true, false, List, ◌∷◌}
 use Rattle.std.specs.Set.{is_member}
 use Rattle.rotation_parts.specs.Rotations.{IsPairingOf}
@@ -107,3 +109,81 @@ pub record IsVertexOfTwo (names : List ℕ) (turn other : ℕ → ℕ) (u v : �
   pub tv : turn v ≡ u
   pub turn_in : (x : ℕ) → is_member ◌==◌ names x ≡ true → is_member ◌==◌ names (turn x) ≡ true
   pub pairing : IsPairingOf (u ∷ v ∷ names) other
+
+-- A triangle between the vertices a, b and c with the edges a1 - b0, b1 - c0, c1 - a0. After the slide the same edges meet at three other
+-- vertices: turned instead of turn.
+--
+--     turn:   a0 a1 a2 a3    b0 b1 b2 b3    c0 c1 c2 c3
+--     turned: a0 a1 c3 b2    b0 b1 a3 c2    c0 c1 b3 a2
+pub record IsSlide (names : List ℕ) (turn turned other : ℕ → ℕ) (a0 a1 a2 a3 b0 b1 b2 b3 c0 c1 c2 c3 : ℕ) : Type 0 where
+  -- the twelve names are different, as their kinds are
+  pub kind : ℕ → ℕ
+  pub kind_a0 : kind a0 ≡ 0
+  pub kind_a1 : kind a1 ≡ 1
+  pub kind_a2 : kind a2 ≡ 2
+  pub kind_a3 : kind a3 ≡ 3
+  pub kind_b0 : kind b0 ≡ 4
+  pub kind_b1 : kind b1 ≡ 5
+  pub kind_b2 : kind b2 ≡ 6
+  pub kind_b3 : kind b3 ≡ 7
+  pub kind_c0 : kind c0 ≡ 8
+  pub kind_c1 : kind c1 ≡ 9
+  pub kind_c2 : kind c2 ≡ 10
+  pub kind_c3 : kind c3 ≡ 11
+  pub has_a0 : is_member ◌==◌ names a0 ≡ true
+  pub has_a1 : is_member ◌==◌ names a1 ≡ true
+  pub has_a2 : is_member ◌==◌ names a2 ≡ true
+  pub has_a3 : is_member ◌==◌ names a3 ≡ true
+  pub has_b0 : is_member ◌==◌ names b0 ≡ true
+  pub has_b1 : is_member ◌==◌ names b1 ≡ true
+  pub has_b2 : is_member ◌==◌ names b2 ≡ true
+  pub has_b3 : is_member ◌==◌ names b3 ≡ true
+  pub has_c0 : is_member ◌==◌ names c0 ≡ true
+  pub has_c1 : is_member ◌==◌ names c1 ≡ true
+  pub has_c2 : is_member ◌==◌ names c2 ≡ true
+  pub has_c3 : is_member ◌==◌ names c3 ≡ true
+  pub turn_in : (x : ℕ) → is_member ◌==◌ names x ≡ true → is_member ◌==◌ names (turn x) ≡ true
+  pub turned_in : (x : ℕ) → is_member ◌==◌ names x ≡ true → is_member ◌==◌ names (turned x) ≡ true
+  pub pairing : IsPairingOf names other
+  pub t_a0 : turn a0 ≡ a1
+  pub t_a1 : turn a1 ≡ a2
+  pub t_a2 : turn a2 ≡ a3
+  pub t_a3 : turn a3 ≡ a0
+  pub t_b0 : turn b0 ≡ b1
+  pub t_b1 : turn b1 ≡ b2
+  pub t_b2 : turn b2 ≡ b3
+  pub t_b3 : turn b3 ≡ b0
+  pub t_c0 : turn c0 ≡ c1
+  pub t_c1 : turn c1 ≡ c2
+  pub t_c2 : turn c2 ≡ c3
+  pub t_c3 : turn c3 ≡ c0
+  pub s_a0 : turned a0 ≡ a1
+  pub s_a1 : turned a1 ≡ c3
+  pub s_a2 : turned a2 ≡ c0
+  pub s_a3 : turned a3 ≡ c2
+  pub s_b0 : turned b0 ≡ b1
+  pub s_b1 : turned b1 ≡ a3
+  pub s_b2 : turned b2 ≡ a0
+  pub s_b3 : turned b3 ≡ a2
+  pub s_c0 : turned c0 ≡ c1
+  pub s_c1 : turned c1 ≡ b3
+  pub s_c2 : turned c2 ≡ b0
+  pub s_c3 : turned c3 ≡ b2
+  pub o_a0 : other a0 ≡ c1
+  pub o_a1 : other a1 ≡ b0
+  pub o_b0 : other b0 ≡ a1
+  pub o_b1 : other b1 ≡ c0
+  pub o_c0 : other c0 ≡ b1
+  pub o_c1 : other c1 ≡ a0
+  pub kept : (x : ℕ) → is_member ◌==◌ names x ≡ true → x ≢ a0 → x ≢ a1 → x ≢ a2 → x ≢ a3 → x ≢ b0 → x ≢ b1 → x ≢ b2 → x ≢ b3 → x ≢ c0 → x ≢ c1 → x ≢ c2 → x ≢ c3 → (turned x ≡ turn x) × (turn x ≢ a0) × (turn x ≢ b0) × (turn x ≢ c0)
+
+-- the same system under other names: f gives the new ones, g the old ones
+pub record IsRenamed (names others : List ℕ) (turn other turned drawn f g : ℕ → ℕ) : Type 0 where
+  pub onto_others : (x : ℕ) → is_member ◌==◌ names x ≡ true → is_member ◌==◌ others (f x) ≡ true
+  pub into_names : (u : ℕ) → is_member ◌==◌ others u ≡ true → is_member ◌==◌ names (g u) ≡ true
+  pub new_again : (u : ℕ) → is_member ◌==◌ others u ≡ true → f (g u) ≡ u
+  pub old_again : (x : ℕ) → is_member ◌==◌ names x ≡ true → g (f x) ≡ x
+  pub turn_in : (x : ℕ) → is_member ◌==◌ names x ≡ true → is_member ◌==◌ names (turn x) ≡ true
+  pub other_in : (x : ℕ) → is_member ◌==◌ names x ≡ true → is_member ◌==◌ names (other x) ≡ true
+  pub turns : (x : ℕ) → is_member ◌==◌ names x ≡ true → turned (f x) ≡ f (turn x)
+  pub pairs : (x : ℕ) → is_member ◌==◌ names x ≡ true → drawn (f x) ≡ f (other x)

@@ -7,7 +7,7 @@ use Rattle.graph_parts.specs.Parts.{part_count}
 use Rattle.graph_parts.specs.Walks.{Joined}
 use Rattle.rotation_parts.specs.Rotations.{exchanged, steps, cycle_count, follower, faces_of, pieces_of, IsFlat, IsPermutation, IsPairing, paired_edges, pair_graph, IsFlatWith}
 use Rattle.rotation_parts.specs.GraphMaps.{IsRetract, AreMatched}
-use Rattle.rotation_parts.specs.Drawings.{IsCurl, IsSubdivision, IsPush, passed, IsVertexOfTwo}
+use Rattle.rotation_parts.specs.Drawings.{IsCurl, IsSubdivision, IsPush, passed, IsVertexOfTwo, IsSlide, IsRenamed}
 
 -- A permutation after an exchange of two names has one cycle more where these lie in one cycle.
 abbrev pub ExchangeSplitsLaw : Type 0
@@ -93,3 +93,17 @@ abbrev pub PassedVertexLaw : Type 0
 PassedVertexLaw =
     (m : ℕ) (names : List ℕ) (turn other : ℕ → ℕ) (u v : ℕ) → IsVertexOfTwo names turn other u v →
     IsFlatWith m (u ∷ v ∷ names) turn other ↔ IsFlatWith m names turn (passed u v other)
+
+-- A slide changes neither the number of faces nor that of pieces.
+abbrev pub SlideCountsLaw : Type 0
+SlideCountsLaw =
+    (names : List ℕ) (turn turned other : ℕ → ℕ) (a0 a1 a2 a3 b0 b1 b2 b3 c0 c1 c2 c3 : ℕ) → IsSlide names turn turned other a0 a1 a2 a3 b0 b1 b2 b3 c0 c1 c2 c3 →
+    (cycle_count names (λ x. turned (other x)) ≡ cycle_count names (λ x. turn (other x)))
+    × (part_count names (pair_graph names turned other) ≡ part_count names (pair_graph names turn other))
+
+-- Nor do other names.
+abbrev pub RenamedCountsLaw : Type 0
+RenamedCountsLaw =
+    (names others : List ℕ) (turn other turned drawn f g : ℕ → ℕ) → IsRenamed names others turn other turned drawn f g →
+    (cycle_count names (λ x. turn (other x)) ≡ cycle_count others (λ x. turned (drawn x)))
+    × (part_count names (pair_graph names turn other) ≡ part_count others (pair_graph others turned drawn))

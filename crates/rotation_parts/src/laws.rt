@@ -1,6 +1,6 @@
 //! The laws of rotation systems: each function has an empty body, and its contract is the law. They are stated in `specs/Laws.antt`.
 
-ghost use Rattle.rotation_parts.specs.Laws.{ExchangeSplitsLaw, ExchangeMergesLaw, GenusLaw, WithoutEdgeLaw, OneMoreEdgeLaw, CutVertexLaw, RetractLaw, MatchedGraphsLaw, CurlCountsLaw, SubdivisionCountsLaw, PushCountsLaw, PairFormLaw, PassedVertexLaw};
+ghost use Rattle.rotation_parts.specs.Laws.{ExchangeSplitsLaw, ExchangeMergesLaw, GenusLaw, WithoutEdgeLaw, OneMoreEdgeLaw, CutVertexLaw, RetractLaw, MatchedGraphsLaw, CurlCountsLaw, SubdivisionCountsLaw, PushCountsLaw, PairFormLaw, PassedVertexLaw, SlideCountsLaw, RenamedCountsLaw};
 
 /// A permutation after an exchange of two names of one cycle has one cycle more.
 pub fn exchange_splits()
@@ -65,4 +65,14 @@ pub fn pair_form()
 /// A vertex of two names that is taken away, also one that is a circle, keeps F - 2k.
 pub fn passed_vertex()
     ensures { PassedVertexLaw }
+{}
+
+/// A triangle's side that is slid over a vertex changes neither the number of faces nor that of pieces.
+pub fn slide_counts()
+    ensures { SlideCountsLaw }
+{}
+
+/// A system under other names has as many faces and pieces.
+pub fn renamed_counts()
+    ensures { RenamedCountsLaw }
 {}
