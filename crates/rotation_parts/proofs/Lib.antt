@@ -11,5 +11,7 @@ pub mod Subdivisions
 pub mod PassedVertices
 pub mod OtherNames
 pub mod Slides
+pub mod LoneCurls
+pub mod PassedLists
 pub mod Pushes
 mod Examples

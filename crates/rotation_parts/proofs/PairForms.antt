@@ -102,13 +102,13 @@ module _ (n : ℕ) (other : ℕ → ℕ) (is : IsPairing n other) where
       omega (arith, both, long, count, up, down)
 
 module _ (n : ℕ) (turn before other : ℕ → ℕ) (turns : IsPermutation (range_with_len 0 n) turn before) (is : IsPairing n other) where
-  abbrev all : List ℕ
+  abbrev pub all : List ℕ
   all = range_with_len 0 n
 
-  abbrev edges : List (ℕ × ℕ)
+  abbrev pub edges : List (ℕ × ℕ)
   edges = paired_edges other all
 
-  edges_among : AreAmong all edges
+  pub edges_among : AreAmong all edges
   edges_among = paired_ends (is_member ◌==◌ all) other all (λ p m. (m, range_has n (other p) (is.low p (in_range n p m))))
 
   across_is : (x : ℕ) → is_member ◌==◌ all x ≡ true → across edges x ≡ other x

@@ -5,6 +5,7 @@
 --     IsPush n turn other drawn e1 e3 f1 f3            one edge pushed over another, by two vertices of four names
 --     passed u v other                                 the pairing where the names u and v are passed by
 --     IsVertexOfTwo names turn other u v               u and v are a vertex beside the names
+--     IsLoneCurl names turn other a b c d              a vertex of four names beside the names, with two edges from itself to itself
 --     IsSlide names turn turned other a0 .. c3         one side of a triangle slid over the vertex across from it
 --     IsRenamed names others turn other turned drawn f g    a system under other names
 use Rattle.std.specs.Prelude.{◌≡◌, ◌≢◌, ◌<◌, ℕ, ◌+◌, ◌==◌, if◌then◌else◌, true, false, List, ◌∷◌}
@@ -109,6 +110,23 @@ pub record IsVertexOfTwo (names : List ℕ) (turn other : ℕ → ℕ) (u v : �
   pub tv : turn v ≡ u
   pub turn_in : (x : ℕ) → is_member ◌==◌ names x ≡ true → is_member ◌==◌ names (turn x) ≡ true
   pub pairing : IsPairingOf (u ∷ v ∷ names) other
+
+-- a vertex of four names that is a piece of its own, with the edges a - b and c - d; the names turn a, b, c, d
+pub record IsLoneCurl (names : List ℕ) (turn other : ℕ → ℕ) (a b c d : ℕ) : Type 0 where
+  pub turn_in : (x : ℕ) → is_member ◌==◌ names x ≡ true → is_member ◌==◌ names (turn x) ≡ true
+  pub other_in : (x : ℕ) → is_member ◌==◌ names x ≡ true → is_member ◌==◌ names (other x) ≡ true
+  pub new_a : is_member ◌==◌ (b ∷ c ∷ d ∷ names) a ≡ false
+  pub new_b : is_member ◌==◌ (c ∷ d ∷ names) b ≡ false
+  pub new_c : is_member ◌==◌ (d ∷ names) c ≡ false
+  pub new_d : is_member ◌==◌ names d ≡ false
+  pub ta : turn a ≡ b
+  pub tb : turn b ≡ c
+  pub tc : turn c ≡ d
+  pub td : turn d ≡ a
+  pub ab : other a ≡ b
+  pub ba : other b ≡ a
+  pub cd : other c ≡ d
+  pub dc : other d ≡ c
 
 -- A triangle between the vertices a, b and c with the edges a1 - b0, b1 - c0, c1 - a0. After the slide the same edges meet at three other
 -- vertices: turned instead of turn.

@@ -7,7 +7,7 @@ use Rattle.graph_parts.specs.Parts.{part_count}
 use Rattle.graph_parts.specs.Walks.{Joined}
 use Rattle.rotation_parts.specs.Rotations.{exchanged, steps, cycle_count, follower, faces_of, pieces_of, IsFlat, IsPermutation, IsPairing, paired_edges, pair_graph, IsFlatWith}
 use Rattle.rotation_parts.specs.GraphMaps.{IsRetract, AreMatched}
-use Rattle.rotation_parts.specs.Drawings.{IsCurl, IsSubdivision, IsPush, passed, IsVertexOfTwo, IsSlide, IsRenamed}
+use Rattle.rotation_parts.specs.Drawings.{IsCurl, IsSubdivision, IsPush, passed, IsVertexOfTwo, IsLoneCurl, IsSlide, IsRenamed}
 
 -- A permutation after an exchange of two names has one cycle more where these lie in one cycle.
 abbrev pub ExchangeSplitsLaw : Type 0
@@ -93,6 +93,12 @@ abbrev pub PassedVertexLaw : Type 0
 PassedVertexLaw =
     (m : ℕ) (names : List ℕ) (turn other : ℕ → ℕ) (u v : ℕ) → IsVertexOfTwo names turn other u v →
     IsFlatWith m (u ∷ v ∷ names) turn other ↔ IsFlatWith m names turn (passed u v other)
+
+-- A curl that is a piece of its own has three faces.
+abbrev pub LoneCurlLaw : Type 0
+LoneCurlLaw =
+    (m : ℕ) (names : List ℕ) (turn other : ℕ → ℕ) (a b c d : ℕ) → IsLoneCurl names turn other a b c d →
+    IsFlatWith m names turn other ↔ IsFlatWith (m + 1) (a ∷ b ∷ c ∷ d ∷ names) turn other
 
 -- A slide changes neither the number of faces nor that of pieces.
 abbrev pub SlideCountsLaw : Type 0

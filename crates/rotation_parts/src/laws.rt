@@ -1,6 +1,6 @@
 //! The laws of rotation systems: each function has an empty body, and its contract is the law. They are stated in `specs/Laws.antt`.
 
-ghost use Rattle.rotation_parts.specs.Laws.{ExchangeSplitsLaw, ExchangeMergesLaw, GenusLaw, WithoutEdgeLaw, OneMoreEdgeLaw, CutVertexLaw, RetractLaw, MatchedGraphsLaw, CurlCountsLaw, SubdivisionCountsLaw, PushCountsLaw, PairFormLaw, PassedVertexLaw, SlideCountsLaw, RenamedCountsLaw};
+ghost use Rattle.rotation_parts.specs.Laws.{ExchangeSplitsLaw, ExchangeMergesLaw, GenusLaw, WithoutEdgeLaw, OneMoreEdgeLaw, CutVertexLaw, RetractLaw, MatchedGraphsLaw, CurlCountsLaw, SubdivisionCountsLaw, PushCountsLaw, PairFormLaw, PassedVertexLaw, LoneCurlLaw, SlideCountsLaw, RenamedCountsLaw};
 
 /// A permutation after an exchange of two names of one cycle has one cycle more.
 pub fn exchange_splits()
@@ -75,4 +75,9 @@ pub fn slide_counts()
 /// A system under other names has as many faces and pieces.
 pub fn renamed_counts()
     ensures { RenamedCountsLaw }
+{}
+
+/// A curl that is a piece of its own has three faces.
+pub fn lone_curl()
+    ensures { LoneCurlLaw }
 {}
