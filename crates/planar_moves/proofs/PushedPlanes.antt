@@ -25,13 +25,14 @@ use Rattle.diagram_moves.specs.Steps.{Moved}
 use Rattle.diagram_moves.proofs.Accepted.{unless_Ok, finished_Ok}
 use Rattle.list_lemmas.proofs.Items.{get_front}
 use Rattle.move_results.proofs.PairedResults.{paired_again}
-use Rattle.diagram_moves.proofs.PlaceLemmas.{place_labels_are, in_range, range_has, other_place_of, first_place_has, length-map_from, slice_index-map_from, crossing_labels-at_places}
+use Rattle.diagram_moves.proofs.PlaceLemmas.{place_labels_are, in_range, range_has, other_place_of, length-map_from, slice_index-map_from, crossing_labels-at_places}
 use Rattle.diagram_moves.proofs.Pushing.{crossing_labels-append}
 use Rattle.rotation_parts.specs.Rotations.{pair_graph}
 use Rattle.rotation_parts.specs.Rotations.{steps, cycle_count, IsPermutation, IsPairing}
 use Rattle.rotation_parts.proofs.Steps.{same_steps, steps_among}
 use Rattle.planar_forms.specs.PlaceSystems.{next_slot, slot_before, all_places, along_face}
 use Rattle.rotation_parts.specs.Drawings.{IsPush}
+use Rattle.planar_moves.proofs.FirstPlaces.{first_place_has}
 use Rattle.planar_moves.specs.Laws.{PushPlanarLaw}
 use Rattle.planar_forms.proofs.PlacePairs.{other_is, slice_index-skip, long_is, label_twice, paired_places, turn_at}
 use Rattle.planar_forms.proofs.PlaceCounts.{turns}
