@@ -1,7 +1,7 @@
 -- Planarity by the pairing of the places: F = N + 2k.
 --
 -- Others cite: planar_form.
-use Rattle.std.proofs.Common.{◌≡◌, ◌+◌, ◌*◌, arith, length}
+use Rattle.std.proofs.Common.{arith, length}
 use Rattle.planar_check.specs.Places.{place_labels, other_place}
 use Rattle.rotation_parts.proofs.PairForms.{pair_form}
 use Rattle.planar_forms.specs.PlaceSystems.{next_slot, slot_before}

@@ -5,16 +5,13 @@ use Rattle.std.proofs.Common.{◌≡◌, ◌==◌, Bool, cond, List, Some, None,
 use Rattle.std.specs.Set.{is_member}
 use Rattle.std.proofs.lemmas.Bool.{eq-eqb, cases_Bool}
 use Rattle.pd_reader.specs.declared.item.Item.{Item}
-use Rattle.planar_check.specs.declared.fault.PlanarFault.{PlanarFault}
 use Rattle.planar_check.specs.declared.fault.PlanarFault.TheVariants.{NotPlanar}
 use Rattle.planar_check.specs.Places.{crossings_of, item_slots}
 use Rattle.planar_check.specs.Planar.{IsPlanar, planar_refusal, face_count, wanted_faces}
-use Rattle.script_reader.specs.declared.step.Step.{Step}
 use Rattle.script_reader.specs.declared.step.Step.TheVariants.{R2, R2Undo, R3, Curl, CurlUndo, BlowUp}
-use Rattle.diagram_moves.specs.Laws.{IsPairedDiagram}
 use Rattle.diagram_moves.specs.Moves.{move}
 use Rattle.diagram_moves.specs.Rewriting.{crossing_labels}
-use Rattle.diagram_moves.specs.Scripts.{applied, judged, kept_planar}
+use Rattle.diagram_moves.specs.Scripts.{judged, kept_planar}
 use Rattle.diagram_moves.specs.Steps.{Moved, Answer}
 use Rattle.planar_moves.specs.Laws.{MovesPlanarLaw, NeverRefusedLaw}
 use Rattle.planar_moves.proofs.BlownPlanes.{blow_up_planar}

@@ -1,25 +1,24 @@
 -- A Loop with a curl is a piece of its own.
 --
 -- Others cite: curl_on_loop_planar.
-use Rattle.std.proofs.Common.{◌≡◌, ◌≢◌, ◌↔◌, ◌≤◌, ◌<◌, ℕ, ◌+◌, ◌-◌, ◌*◌, ◌/◌, ◌%◌, ◌==◌, Bool, true, false, cond, not, List, [], ◌∷◌, ◌++◌, map, length, slice_index, Some, Ok, refl, sym, ap, ◌∙◌, subst, arith, ⊎_elim}
-use Rattle.std.specs.List.{AllByRecursion, range_with_len}
+use Rattle.std.proofs.Common.{◌≡◌, ◌≢◌, ◌↔◌, ◌≤◌, ◌<◌, ℕ, ◌+◌, ◌*◌, ◌/◌, ◌%◌, ◌==◌, Bool, true, false, cond, not, List, [], ◌∷◌, ◌++◌, map, length, slice_index, Some, refl, sym, ap, ◌∙◌, subst, arith, ⊎_elim}
+use Rattle.std.specs.List.{range_with_len}
 use Rattle.std.specs.Set.{is_member}
 use Rattle.std.proofs.lemmas.Bool.{eq-eqb, eqb-true, cases_Bool, or_cases}
 use Rattle.std.proofs.lemmas.Bool.Decides.{nat_tests}
 use Rattle.graph_parts.proofs.Numbered.{numbered-member as in_range, is_member-numbered as range_has}
-use Rattle.graph_parts.specs.Parts.{part_count}
 use Rattle.pd_reader.specs.declared.item.Item.{Item}
 use Rattle.pd_reader.specs.declared.item.Item.TheVariants as item
-use Rattle.pd_reader.specs.Items.{item_labels, HasItsSlots}
+use Rattle.pd_reader.specs.Items.{item_labels}
 use Rattle.pd_reader.specs.Diagrams.{labels}
 use Rattle.planar_check.specs.declared.sign.Sign.{Sign}
 use Rattle.planar_check.specs.declared.sign.Sign.TheVariants as signs
-use Rattle.planar_check.specs.Places.{crossings_of, item_slots, place_labels, other_place}
+use Rattle.planar_check.specs.Places.{item_slots, place_labels, other_place}
 use Rattle.planar_check.specs.Planar.{IsPlanar}
 use Rattle.script_reader.specs.declared.step.Step.TheVariants.{Curl}
 use Rattle.diagram_moves.specs.declared.fault.MoveFault.TheVariants.{NoEdge}
 use Rattle.diagram_moves.specs.Laws.{IsPairedDiagram}
-use Rattle.diagram_moves.specs.Moves.{move, curl_slots, curl_of, curled_loop, cut_label, second_place, is_edge, is_loop, finished}
+use Rattle.diagram_moves.specs.Moves.{curl_slots, curl_of, curled_loop, cut_label, second_place, is_edge, is_loop, finished}
 use Rattle.diagram_moves.specs.Rewriting.{slot, crossing_from, crossing_at, crossing_labels, at_places, fresh}
 use Rattle.diagram_moves.specs.Steps.{Moved}
 use Rattle.diagram_moves.proofs.Accepted.{unless_Ok, finished_Ok}
@@ -28,7 +27,7 @@ use Rattle.diagram_moves.proofs.PlaceLemmas.{place_labels_are}
 use Rattle.list_lemmas.proofs.Times.{member_of_times}
 use Rattle.move_results.proofs.FaceSteps.{number_from}
 use Rattle.move_results.proofs.PairedResults.{paired_again}
-use Rattle.rotation_parts.specs.Rotations.{cycle_count, pair_graph, IsPairing, IsPairingOf, IsFlatWith}
+use Rattle.rotation_parts.specs.Rotations.{IsPairing, IsPairingOf, IsFlatWith}
 use Rattle.rotation_parts.specs.Drawings.{IsLoneCurl}
 use Rattle.rotation_parts.proofs.LoneCurls.{lone_curl}
 use Rattle.rotation_parts.proofs.PassedLists.{reordered_flat}
@@ -37,7 +36,7 @@ use Rattle.planar_forms.specs.PlaceSystems.{next_slot}
 use Rattle.planar_forms.proofs.PlacePairs.{other_is, label_twice, paired_places, long_is}
 use Rattle.planar_forms.proofs.PlanarForms.{planar_form}
 use Rattle.planar_moves.specs.Laws.{CurlOnLoopPlanarLaw}
-use Rattle.planar_moves.proofs.KeptPlaces.{kept_numbers, removed_from, crossing_count, count_labels, last_number, one_less, all_kept}
+use Rattle.planar_moves.proofs.KeptPlaces.{kept_numbers, removed_from, crossing_count, count_labels, one_less, all_kept}
 use Rattle.planar_moves.proofs.RemovedCrossings.{kept_places, in_kept, kept_is, result_counts, new_long}
 use Rattle.planar_moves.proofs.SlidPlanes.{four_cases}
 use Rattle.planar_moves.proofs.SmoothedCrossings.{corner_place, not_head, here_is, later_is}

@@ -9,3 +9,4 @@ pub mod UndonePlanes
 pub mod SlidPlanes
 pub mod CurledLoops
 pub mod AllMoves
+mod Examples

@@ -17,7 +17,7 @@ use Rattle.pd_reader.specs.declared.item.Item.TheVariants as item
 use Rattle.planar_check.specs.Places.{crossings_of, item_slots, place_labels, slots_after, other_place, other_places}
 use Rattle.planar_check.specs.Planar.{IsPlanar, next_in_face, face_of}
 use Rattle.diagram_moves.specs.Laws.{IsPairedDiagram}
-use Rattle.diagram_moves.specs.Moves.{move, plain, first_place_of, second_place, cut_labels, pushed, same_face, is_edge, is_loop}
+use Rattle.diagram_moves.specs.Moves.{plain, first_place_of, second_place, cut_labels, pushed, same_face, is_edge, is_loop}
 use Rattle.diagram_moves.specs.Rewriting.{crossing_labels, map_from, at_places, fresh}
 use Rattle.script_reader.specs.declared.step.Step.TheVariants.{R2}
 use Rattle.diagram_moves.specs.declared.fault.MoveFault.TheVariants.{NoEdge, SameEdge, LoopEdge, NotSameFace}

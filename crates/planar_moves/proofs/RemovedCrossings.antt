@@ -1,15 +1,14 @@
 -- Crossings go, and what is left of their system, after cuts, is that of the result: if F = m + 2k there, the result is planar.
 --
 -- Others cite: kept_places, in_kept, out_of_kept, Removal, removed_planar.
-use Rattle.std.proofs.Common.{◌≡◌, ◌≢◌, ◌≤◌, ◌<◌, ℕ, ◌+◌, ◌-◌, ◌*◌, ◌/◌, ◌%◌, ◌==◌, Bool, true, false, cond, not, List, [], ◌∷◌, ◌++◌, filter, length, slice_index, refl, sym, ap, ◌∙◌, subst, arith, ⊎_elim, append-nil}
+use Rattle.std.proofs.Common.{◌≡◌, ◌<◌, ℕ, ◌+◌, ◌*◌, ◌/◌, ◌%◌, ◌==◌, Bool, true, false, not, List, filter, length, slice_index, sym, ap, ◌∙◌, arith}
 use Rattle.std.specs.List.{range_with_len}
 use Rattle.std.specs.Set.{is_member}
-use Rattle.std.proofs.lemmas.Bool.Decides.{nat_tests}
 use Rattle.graph_parts.proofs.Numbered.{numbered-member as in_range, is_member-numbered as range_has}
 use Rattle.graph_parts.specs.Parts.{part_count}
 use Rattle.pd_reader.specs.declared.item.Item.{Item}
 use Rattle.planar_check.specs.Components.{rank}
-use Rattle.planar_check.specs.Places.{crossings_of, item_slots, place_labels, other_place}
+use Rattle.planar_check.specs.Places.{item_slots, place_labels, other_place}
 use Rattle.planar_check.specs.Planar.{IsPlanar}
 use Rattle.diagram_moves.specs.Laws.{IsPairedDiagram}
 use Rattle.diagram_moves.specs.Rewriting.{crossing_labels}
@@ -18,7 +17,7 @@ use Rattle.rotation_parts.specs.Rotations.{cycle_count, pair_graph, IsPairing, I
 use Rattle.rotation_parts.proofs.OtherNames.{renamed_counts}
 use Rattle.rotation_parts.proofs.PairForms.{filter_member, member_filter}
 use Rattle.rotation_parts.proofs.PassedLists.{with_vertices, AreVertices, HaveOneMark, Passed, passed_all, reordered_flat}
-use Rattle.planar_forms.specs.PlaceSystems.{next_slot, all_places}
+use Rattle.planar_forms.specs.PlaceSystems.{next_slot}
 use Rattle.planar_forms.proofs.PlacePairs.{other_is, label_twice, paired_places, long_is}
 use Rattle.planar_forms.proofs.PlanarForms.{planar_form}
 use Rattle.planar_moves.proofs.KeptPlaces.{kept_numbers, removed_from, crossing_count, count_labels, kept_at, kept_has, rank_at, kept_label, kept_long, place_from}

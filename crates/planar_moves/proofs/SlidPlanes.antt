@@ -1,9 +1,8 @@
 -- The result of R3 is planar exactly where the diagram is: its places are those before under other names, with one side of the triangle slid.
 --
 -- Others cite: slide_planar, four_cases.
-use Rattle.std.proofs.Common.{◌≡◌, ◌≢◌, ◌↔◌, ◌≤◌, ◌<◌, ℕ, ◌+◌, ◌-◌, ◌*◌, ◌/◌, ◌%◌, ◌==◌, ◌||◌, Bool, true, false, cond, ltb, not, List, [], ◌∷◌, ◌++◌, length, slice_index, Some, Ok, refl, sym, ap, ◌∙◌, subst, arith, ⊎_elim}
+use Rattle.std.proofs.Common.{◌≡◌, ◌≢◌, ◌↔◌, ◌≤◌, ◌<◌, ℕ, ◌+◌, ◌-◌, ◌*◌, ◌/◌, ◌%◌, ◌==◌, ◌||◌, Bool, true, false, cond, ltb, List, [], ◌∷◌, ◌++◌, length, slice_index, Some, refl, sym, ap, ◌∙◌, subst, arith, ⊎_elim}
 use Rattle.std.specs.List.{AllByRecursion, range_with_len, find}
-use Rattle.std.specs.Set.{is_member}
 use Rattle.std.proofs.lemmas.Bool.{eq-eqb, eqb-true, cases_Bool, ltb-true}
 use Rattle.std.proofs.lemmas.Bool.Decides.{nat_tests}
 use Rattle.std.proofs.lemmas.List.{length-append}
@@ -13,30 +12,30 @@ use Rattle.graph_parts.specs.Parts.{part_count}
 use Rattle.pd_reader.specs.declared.item.Item.{Item}
 use Rattle.pd_reader.specs.declared.item.Item.TheVariants as item
 use Rattle.pd_reader.specs.Items.{HasItsSlots}
-use Rattle.planar_check.specs.Places.{crossings_of, item_slots, place_labels, other_place}
+use Rattle.planar_check.specs.Places.{item_slots, place_labels, other_place}
 use Rattle.planar_check.specs.Planar.{IsPlanar}
 use Rattle.script_reader.specs.declared.step.Step.TheVariants.{R3}
 use Rattle.diagram_moves.specs.declared.fault.MoveFault.TheVariants.{NoCrossing, NotTriangle}
 use Rattle.diagram_moves.specs.Laws.{IsPairedDiagram}
-use Rattle.diagram_moves.specs.Moves.{move, plain, slot_triples, is_triangle, triangle_slots, triangle_rewritten, moved_slots, finished}
+use Rattle.diagram_moves.specs.Moves.{plain, slot_triples, is_triangle, triangle_slots, triangle_rewritten, moved_slots, finished}
 use Rattle.diagram_moves.specs.Rewriting.{slot, crossing_at, crossing_labels}
 use Rattle.diagram_moves.specs.Steps.{Moved}
 use Rattle.diagram_moves.proofs.Accepted.{given_Ok, unless_Ok, finished_Ok, passing_test, small_triple, low_triple, small_triples}
 use Rattle.diagram_moves.proofs.NoNumbers.{nothing}
 use Rattle.diagram_moves.proofs.PlaceLemmas.{place_labels_are}
 use Rattle.diagram_moves.proofs.Rewritten.{anew}
-use Rattle.diagram_moves.proofs.Triangles.{found_after, also_after, too_after, around_new_here, around_new_there, around_new_beyond, sizes_after}
+use Rattle.diagram_moves.proofs.Triangles.{found_after, also_after, too_after, around_new_here, around_new_there, around_new_beyond}
 use Rattle.move_results.proofs.FaceSteps.{number_from}
 use Rattle.move_results.proofs.PairedResults.{paired_again, triangle_edges}
 use Rattle.rotation_parts.specs.Drawings.{IsSlide}
-use Rattle.rotation_parts.specs.Rotations.{cycle_count, pair_graph, IsPairing, IsPairingOf}
+use Rattle.rotation_parts.specs.Rotations.{cycle_count, pair_graph, IsPairing}
 use Rattle.rotation_parts.proofs.OtherNames.{renamed_counts}
 use Rattle.rotation_parts.proofs.Slides.{slide_counts}
 use Rattle.planar_forms.specs.PlaceSystems.{next_slot}
 use Rattle.planar_forms.proofs.PlacePairs.{other_is, slice_index-skip, label_twice, paired_places, long_is}
 use Rattle.planar_forms.proofs.PlanarForms.{planar_form}
 use Rattle.planar_moves.specs.Laws.{SlidePlanarLaw}
-use Rattle.planar_moves.proofs.KeptPlaces.{crossing_count, count_labels, last_number}
+use Rattle.planar_moves.proofs.KeptPlaces.{crossing_count, count_labels}
 use Rattle.planar_moves.proofs.SmoothedCrossings.{corner_place}
 use Rattle.planar_moves.proofs.UndonePlanes.{corner_label, corner_low, same_labels}
 

@@ -1,7 +1,7 @@
 -- A crossing that goes is cut in two: from slot k on, the slots k + 1 and k + 2 stay together, and k + 3 and k.
 --
 -- Others cite: corner_place, one_smoothed, two_smoothed, SmoothedOne, SmoothedTwo.
-use Rattle.std.proofs.Common.{◌≡◌, ◌≢◌, ◌≤◌, ◌<◌, ℕ, ◌+◌, ◌-◌, ◌*◌, ◌/◌, ◌%◌, ◌==◌, Bool, true, false, cond, not, List, [], ◌∷◌, length, slice_index, Some, refl, sym, ap, ◌∙◌, subst, arith, ⊎_elim}
+use Rattle.std.proofs.Common.{◌≡◌, ◌≢◌, ◌≤◌, ◌<◌, ℕ, ◌+◌, ◌-◌, ◌*◌, ◌/◌, ◌%◌, ◌==◌, true, false, List, [], ◌∷◌, length, slice_index, Some, refl, ap, ◌∙◌, arith, ⊎_elim}
 use Rattle.std.specs.List.{range_with_len}
 use Rattle.std.specs.Set.{is_member}
 use Rattle.std.proofs.lemmas.Bool.{eq-eqb, eqb-true, cases_Bool, or_cases, or_left, or_right}
@@ -9,13 +9,13 @@ use Rattle.std.proofs.lemmas.Bool.Decides.{nat_tests}
 use Rattle.graph_parts.proofs.Numbered.{numbered-member as in_range, is_member-numbered as range_has}
 use Rattle.graph_parts.specs.Walks.{Joined, on}
 use Rattle.pd_reader.specs.declared.item.Item.{Item}
-use Rattle.planar_check.specs.Places.{crossings_of, item_slots, place_labels, other_place}
+use Rattle.planar_check.specs.Places.{item_slots, place_labels, other_place}
 use Rattle.planar_check.specs.Planar.{IsPlanar}
 use Rattle.diagram_moves.specs.Laws.{IsPairedDiagram}
 use Rattle.diagram_moves.specs.Rewriting.{crossing_at, crossing_labels}
 use Rattle.diagram_moves.proofs.PlaceLemmas.{place_labels_are}
 use Rattle.move_results.proofs.FaceSteps.{number_from}
-use Rattle.rotation_parts.specs.Rotations.{exchanged, steps, cycle_count, pair_graph, IsPermutation, IsPairing, IsFlatWith}
+use Rattle.rotation_parts.specs.Rotations.{exchanged, steps, cycle_count, IsPairing}
 use Rattle.rotation_parts.proofs.PairForms.{pair_form}
 use Rattle.rotation_parts.proofs.PassedLists.{with_vertices, AreVertices, HaveOneMark, IsCut, cut_form}
 use Rattle.rotation_parts.proofs.Steps.{equal_joined, step_along, bool_from_iff}
@@ -23,7 +23,7 @@ use Rattle.planar_forms.specs.PlaceSystems.{next_slot, slot_before}
 use Rattle.planar_forms.proofs.PlacePairs.{paired_places, long_is}
 use Rattle.planar_forms.proofs.PlaceCounts.{turns, are_counted, flat_diagram}
 use Rattle.planar_moves.proofs.KeptPlaces.{kept_numbers, removed_from, crossing_count, count_labels, all_kept, one_less, last_number}
-use Rattle.planar_moves.proofs.RemovedCrossings.{kept_places, in_kept, kept_is, Removal, removed_planar}
+use Rattle.planar_moves.proofs.RemovedCrossings.{kept_places, in_kept, kept_is, removed_planar}
 
 -- the place of slot k of crossing c
 abbrev pub corner_place : ℕ → ℕ → ℕ

@@ -1,10 +1,10 @@
 -- The results of CurlUndo and R2Undo are planar: each crossing that goes is smoothed.
 --
 -- Others cite: curl_undo_planar, pull_planar.
-use Rattle.std.proofs.Common.{◌≡◌, ◌≢◌, ◌⊎◌, ◌≤◌, ◌<◌, ltb, ℕ, ◌+◌, ◌-◌, ◌*◌, ◌/◌, ◌%◌, ◌==◌, ◌&&◌, Bool, true, false, cond, not, List, [], ◌∷◌, ◌++◌, map, length, slice_index, Some, Ok, refl, sym, ap, ◌∙◌, subst, arith, ⊎_elim, Contains}
+use Rattle.std.proofs.Common.{◌≡◌, ◌≢◌, ◌⊎◌, ◌≤◌, ◌<◌, ltb, ℕ, ◌+◌, ◌/◌, ◌%◌, ◌==◌, ◌&&◌, cond, not, List, [], ◌∷◌, length, slice_index, Some, sym, ap, ◌∙◌, subst, arith, ⊎_elim, Contains}
 use Rattle.std.specs.List.{find, filter}
 use Rattle.std.specs.Set.{is_member}
-use Rattle.std.proofs.lemmas.Bool.{eq-eqb, eqb-true, and_parts, ltb-true}
+use Rattle.std.proofs.lemmas.Bool.{eq-eqb, eqb-true, and_parts}
 use Rattle.std.proofs.lemmas.Bool.Decides.{nat_tests}
 use Rattle.graph_parts.specs.LeastNames.{least_label}
 use Rattle.graph_parts.specs.Walks.{along}
@@ -18,18 +18,18 @@ use Rattle.planar_check.proofs.OppositePlaces.{only_other}
 use Rattle.script_reader.specs.declared.step.Step.TheVariants.{R2Undo, CurlUndo}
 use Rattle.diagram_moves.specs.declared.fault.MoveFault.TheVariants.{NoCrossing, NotBigon, NotCurl}
 use Rattle.diagram_moves.specs.Laws.{IsPairedDiagram}
-use Rattle.diagram_moves.specs.Moves.{move, plain, is_bigon, bigon_classes, slot_pairs, four, is_curl, curl_classes, curl_of, closing, removed, two_labels}
+use Rattle.diagram_moves.specs.Moves.{plain, is_bigon, bigon_classes, slot_pairs, four, is_curl, curl_classes, curl_of, closing, removed, two_labels}
 use Rattle.diagram_moves.specs.Rewriting.{slot, crossing_at, crossing_labels}
 use Rattle.diagram_moves.specs.Steps.{Moved}
-use Rattle.diagram_moves.proofs.Accepted.{given_Ok, unless_Ok, finished_Ok, passing_test, small_pair, low_pair, small_pairs, small_slots}
+use Rattle.diagram_moves.proofs.Accepted.{given_Ok, unless_Ok, finished_Ok, passing_test, small_pair, small_pairs, small_slots}
 use Rattle.diagram_moves.proofs.PlaceLemmas.{place_labels_are, other_place_of}
 use Rattle.move_results.proofs.FaceSteps.{number_from}
 use Rattle.move_results.proofs.PairedResults.{paired_again}
 use Rattle.rotation_parts.specs.Rotations.{exchanged}
 use Rattle.planar_forms.proofs.PlacePairs.{other_is, label_twice}
 use Rattle.planar_moves.specs.Laws.{CurlUndoPlanarLaw, PullPlanarLaw}
-use Rattle.planar_moves.proofs.KeptPlaces.{removed_from, crossing_count, count_labels, last_number, label_at, closed_labels}
-use Rattle.planar_moves.proofs.RemovedCrossings.{kept_places, kept_is}
+use Rattle.planar_moves.proofs.KeptPlaces.{removed_from, count_labels, last_number, label_at, closed_labels}
+use Rattle.planar_moves.proofs.RemovedCrossings.{kept_is}
 use Rattle.planar_moves.proofs.SmoothedCrossings.{corner_place, one_smoothed, two_smoothed}
 
 -- the label at a corner
@@ -156,17 +156,16 @@ module _ (items : List Item) (pd : IsPairedDiagram items) (c d s t : ℕ) (here 
     bigon_planar : IsPlanar item_slots after
     bigon_planar =
         let mark : ℕ → ℕ = λ p. label (swapped p) in
-        two_smoothed items pd planar c (s + 3) here found d t there also apart after pd2 label mark labels
-        (
+        two_smoothed items pd planar c (s + 3) here found d t there also apart after pd2 label mark labels (
           ap label (at_y (corner_place d (t + 1)) (at_d (t + 1))) ∙ (xd ∙ ap label (sym (swapped_d (t + 2) (omega arith) (omega arith)))),
           (
             ap label (swapped_d (t + 3) (omega arith) (omega arith)) ∙ (sym yd ∙ ap label (sym (at_x (corner_place d t) (at_d t ∙ sym first)))),
             (
               ap label (at_x (corner_place c (s + 3 + 1)) (at_c (s + 3 + 1) ∙ come_round here (s + 3 + 1) s (omega arith)))
-              ∙ (yc ∙ ap label (sym (swapped_c (s + 3 + 2) (omega arith) (omega arith) ∙ come_round here (s + 3 + 2) (s + 1) (omega arith)))),
+                  ∙ (yc ∙ ap label (sym (swapped_c (s + 3 + 2) (omega arith) (omega arith) ∙ come_round here (s + 3 + 2) (s + 1) (omega arith)))),
               (
                 ap label (swapped_c (s + 3 + 3) (omega arith) (omega arith) ∙ come_round here (s + 3 + 3) (s + 2) (omega arith))
-                ∙ (sym xc ∙ ap label (sym (at_y (corner_place c (s + 3)) (at_c (s + 3) ∙ second)))),
+                    ∙ (sym xc ∙ ap label (sym (at_y (corner_place c (s + 3)) (at_c (s + 3) ∙ second)))),
                 tt,
               ),
             ),

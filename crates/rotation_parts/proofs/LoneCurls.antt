@@ -1,13 +1,13 @@
 -- A curl that is a piece of its own.
 --
 -- Others cite: lone_curl.
-use Rattle.std.proofs.Common.{◌≡◌, ◌≢◌, ℕ, ◌+◌, ◌*◌, ◌==◌, true, false, cond, List, ◌∷◌, ◌++◌, refl, sym, ap, ◌∙◌, subst, arith, ⊎_elim}
+use Rattle.std.proofs.Common.{◌≡◌, ◌≢◌, ℕ, ◌+◌, ◌==◌, true, false, cond, List, ◌∷◌, refl, sym, ap, ◌∙◌, subst, arith, ⊎_elim}
 use Rattle.std.specs.Set.{is_member}
-use Rattle.std.proofs.lemmas.Bool.{eq-eqb, eqb-true, cases_Bool, or_cases, or_left, or_right}
+use Rattle.std.proofs.lemmas.Bool.{eq-eqb, eqb-true, or_cases, or_left, or_right}
 use Rattle.std.proofs.lemmas.Bool.Decides.{nat_tests}
 use Rattle.graph_parts.specs.Ends.{AreAmong}
 use Rattle.graph_parts.specs.Parts.{part_count}
-use Rattle.graph_parts.specs.Walks.{Joined, stay, back, on}
+use Rattle.graph_parts.specs.Walks.{Joined, on}
 use Rattle.graph_parts.proofs.Ends.{EndsAre-weaker}
 use Rattle.rotation_parts.specs.Laws.{LoneCurlLaw}
 use Rattle.rotation_parts.specs.Drawings.{IsLoneCurl}
@@ -210,9 +210,9 @@ module _ (names : List ℕ) (turn other : ℕ → ℕ) (a b c d : ℕ) (is : IsL
             (λ z k. equal_joined es z (gather z) (sym (gather_old z k))) x m;
         down = piece_walks more turn other fs gather
             (λ x m. by_kind (λ z. Joined fs (gather z) (gather (other z))) (same a (other a) ga (ap gather is.ab ∙ gb)) (same b (other b) gb (ap gather is.ba ∙ ga)) (same c (other c) gc (ap gather is.cd ∙ gd)) (same d (other d) gd (ap gather is.dc ∙ gc))
-                (λ z k. on (equal_joined fs (gather z) z (gather_old z k)) (on (over names turn other z k) (equal_joined fs (other z) (gather (other z)) (sym (gather_old (other z) (is.other_in z k)))))) x m)
+            (λ z k. on (equal_joined fs (gather z) z (gather_old z k)) (on (over names turn other z k) (equal_joined fs (other z) (gather (other z)) (sym (gather_old (other z) (is.other_in z k)))))) x m)
             (λ x m. by_kind (λ z. Joined fs (gather z) (gather (turn z))) (same a (turn a) ga (ap gather is.ta ∙ gb)) (same b (turn b) gb (ap gather is.tb ∙ gc)) (same c (turn c) gc (ap gather is.tc ∙ gd)) (same d (turn d) gd (ap gather is.td ∙ ga))
-                (λ z k. on (equal_joined fs (gather z) z (gather_old z k)) (on (round names turn other z k) (equal_joined fs (turn z) (gather (turn z)) (sym (gather_old (turn z) (is.turn_in z k)))))) x m);
+            (λ z k. on (equal_joined fs (gather z) z (gather_old z k)) (on (round names turn other z k) (equal_joined fs (turn z) (gather (turn z)) (sym (gather_old (turn z) (is.turn_in z k)))))) x m);
         up = piece_walks names turn other es (λ x. x) (λ x m. over more turn other x (old_more x m)) (λ x m. round more turn other x (old_more x m));
       } in
       let out_a : is_member ◌==◌ names a ≡ false = (let o = is.new_a in grind (arith, o)) in

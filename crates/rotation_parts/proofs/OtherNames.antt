@@ -4,7 +4,7 @@
 use Rattle.std.proofs.Common.{◌≡◌, ℕ, ◌==◌, true, List, sym, ap, ◌∙◌}
 use Rattle.std.specs.Set.{is_member}
 use Rattle.graph_parts.specs.Parts.{part_count}
-use Rattle.graph_parts.specs.Walks.{Joined, on}
+use Rattle.graph_parts.specs.Walks.{on}
 use Rattle.rotation_parts.specs.Laws.{RenamedCountsLaw}
 use Rattle.rotation_parts.specs.Drawings.{IsRenamed}
 use Rattle.rotation_parts.specs.Rotations.{steps, cycle_count, pair_graph}

@@ -119,8 +119,10 @@ cut_form n turn before other a b is cut ma mb ne j =
     let all = range_with_len 0 n in
     let permutes = cut_permutes all turn before cut.permutes a b ma mb in
     let flat = (pair_form n turn before other cut.permutes is).1 cut.form in
-    let flat_after = cut_vertex all turn before a b (paired_edges other all) cut.permutes (edges_among n turn before other cut.permutes is) ma mb ne j flat in
-    (record {
-      permutes = permutes;
-      form = (pair_form n (λ x. turn (exchanged a b x)) (λ x. exchanged a b (before x)) other permutes is).0 flat_after;
-    }, exchange_splits all turn before a b cut.permutes ma mb ne j)
+    let flat_after = cut_vertex all turn before a b (paired_edges other all) cut.permutes (edges_among n turn before other cut.permutes is) ma mb ne j flat in (
+      record {
+        permutes = permutes;
+        form = (pair_form n (λ x. turn (exchanged a b x)) (λ x. exchanged a b (before x)) other permutes is).0 flat_after;
+      },
+      exchange_splits all turn before a b cut.permutes ma mb ne j,
+    )

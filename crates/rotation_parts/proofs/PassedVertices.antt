@@ -1,14 +1,14 @@
 -- A vertex of two names is taken away: a circle, or a point of an edge.
 --
 -- Others cite: passed_vertex, passed_pairing, pair_among, over, round.
-use Rattle.std.proofs.Common.{◌≡◌, ◌≢◌, ◌↔◌, ℕ, ◌+◌, ◌*◌, ◌==◌, true, false, cond, List, ◌∷◌, ◌++◌, refl, sym, ap, ◌∙◌, subst, arith, ⊎_elim, Contains}
+use Rattle.std.proofs.Common.{◌≡◌, ◌≢◌, ◌↔◌, ℕ, ◌+◌, ◌==◌, true, false, cond, List, ◌∷◌, ◌++◌, refl, sym, ap, ◌∙◌, subst, arith, ⊎_elim, Contains}
 use Rattle.std.specs.Set.{is_member}
 use Rattle.std.proofs.lemmas.Bool.{eq-eqb, eqb-true, cases_Bool, or_cases, or_left, or_right}
 use Rattle.std.proofs.lemmas.Bool.Decides.{nat_tests}
 use Rattle.std.proofs.lemmas.List.Elements.{Contains-append_left, Contains-append_right, Contains-append_cases}
 use Rattle.graph_parts.specs.Ends.{AreAmong}
 use Rattle.graph_parts.specs.Parts.{part_count}
-use Rattle.graph_parts.specs.Walks.{Joined, along, stay, back, on}
+use Rattle.graph_parts.specs.Walks.{Joined, along, on}
 use Rattle.graph_parts.proofs.Ends.{EndsAre-append, EndsAre-weaker}
 use Rattle.rotation_parts.specs.Laws.{PassedVertexLaw}
 use Rattle.rotation_parts.specs.Drawings.{IsSubdivision, IsVertexOfTwo, passed}
@@ -163,9 +163,9 @@ module _ (names : List ℕ) (turn other : ℕ → ℕ) (u v : ℕ) (is : IsVerte
           near = λ x m. by_kind (λ z. Joined es z (f z)) (equal_joined es u (f u) (sym f_u)) (on (round more turn other v has_v) (equal_joined es (turn v) (f v) (is.tv ∙ sym f_v))) (λ z k. equal_joined es z (f z) (sym (f_old z k))) x m;
           down = piece_walks more turn other fs f
               (λ x m. by_kind (λ z. Joined fs (f z) (f (other z))) (equal_joined fs (f u) (f (other u)) (f_u ∙ sym (ap f circle ∙ f_v))) (equal_joined fs (f v) (f (other v)) (f_v ∙ sym (ap f v_to_u ∙ f_u)))
-                  (λ z k. on (equal_joined fs (f z) z (f_old z k)) (on (over names turn other z k) (equal_joined fs (other z) (f (other z)) (sym (f_old (other z) (stays z k).1))))) x m)
+              (λ z k. on (equal_joined fs (f z) z (f_old z k)) (on (over names turn other z k) (equal_joined fs (other z) (f (other z)) (sym (f_old (other z) (stays z k).1))))) x m)
               (λ x m. by_kind (λ z. Joined fs (f z) (f (turn z))) (equal_joined fs (f u) (f (turn u)) (f_u ∙ sym (ap f is.tu ∙ f_v))) (equal_joined fs (f v) (f (turn v)) (f_v ∙ sym (ap f is.tv ∙ f_u)))
-                  (λ z k. on (equal_joined fs (f z) z (f_old z k)) (on (round names turn other z k) (equal_joined fs (turn z) (f (turn z)) (sym (f_old (turn z) (is.turn_in z k)))))) x m);
+              (λ z k. on (equal_joined fs (f z) z (f_old z k)) (on (round names turn other z k) (equal_joined fs (turn z) (f (turn z)) (sym (f_old (turn z) (is.turn_in z k)))))) x m);
           up = piece_walks names turn other es (λ x. x) (λ x m. over more turn other x (old_more x m)) (λ x m. round more turn other x (old_more x m));
         } in
         let b = one_alone u names fs is.new_u low in

@@ -5,4 +5,8 @@
 
 mod laws;
 
-pub use laws::{curl_counts, cut_vertex, exchange_merges, exchange_splits, genus, lone_curl, matched_graphs, one_more_edge, pair_form, passed_vertex, push_counts, renamed_counts, retract, slide_counts, subdivision_counts, without_edge};
+pub use laws::{
+    curl_counts, cut_vertex, exchange_merges, exchange_splits, genus, lone_curl, matched_graphs,
+    one_more_edge, pair_form, passed_vertex, push_counts, renamed_counts, retract, slide_counts,
+    subdivision_counts, without_edge,
+};
