@@ -1,7 +1,7 @@
 -- Every accepted step keeps a diagram planar.
 --
--- Others cite: moves_planar, never_refused.
-use Rattle.std.proofs.Common.{◌≡◌, ◌==◌, Bool, cond, List, Some, None, Ok, Err, refl, ap, ⊎_elim}
+-- Others cite: moves_planar, never_refused, always_planar, not_refused.
+use Rattle.std.proofs.Common.{◌≡◌, ◌==◌, Bool, cond, List, Some, None, Ok, Err, refl, ap, ⊎_elim, sym, ◌∙◌}
 use Rattle.std.specs.Set.{is_member}
 use Rattle.std.proofs.lemmas.Bool.{eq-eqb, cases_Bool}
 use Rattle.pd_reader.specs.declared.item.Item.{Item}
@@ -13,10 +13,11 @@ use Rattle.diagram_moves.specs.Moves.{move}
 use Rattle.diagram_moves.specs.Rewriting.{crossing_labels}
 use Rattle.diagram_moves.specs.Scripts.{judged, kept_planar}
 use Rattle.diagram_moves.specs.Steps.{Moved, Answer}
-use Rattle.planar_moves.specs.Laws.{MovesPlanarLaw, NeverRefusedLaw}
+use Rattle.planar_moves.specs.Laws.{MovesPlanarLaw, NeverRefusedLaw, AlwaysPlanarLaw}
 use Rattle.planar_moves.proofs.BlownPlanes.{blow_up_planar}
 use Rattle.planar_moves.proofs.CurledLoops.{curl_on_loop_planar}
 use Rattle.planar_moves.proofs.CurledPlanes.{curl_planar}
+use Rattle.planar_moves.proofs.NotPlanarFaults.{plain_move}
 use Rattle.planar_moves.proofs.PushedPlanes.{push_planar}
 use Rattle.planar_moves.proofs.SlidPlanes.{slide_planar}
 use Rattle.planar_moves.proofs.UndonePlanes.{curl_undo_planar, pull_planar}
@@ -31,7 +32,7 @@ moves_planar items (CurlUndo c) moved pd planar h = curl_undo_planar items c mov
 moves_planar items (BlowUp sign) moved pd planar h = (blow_up_planar items sign moved h).0 planar
 
 -- planar items are not refused
-not_refused : (items : List Item) → IsPlanar item_slots items → planar_refusal item_slots items ≡ None
+pub not_refused : (items : List Item) → IsPlanar item_slots items → planar_refusal item_slots items ≡ None
 not_refused items planar =
     let faces = face_count (crossings_of items) in
     let wanted = wanted_faces (crossings_of items) in
@@ -46,3 +47,6 @@ judged_planar (Ok moved) h = kept_as_it_is moved (h moved refl)
 
 pub never_refused : NeverRefusedLaw
 never_refused items step pd planar = judged_planar (move items step) (λ moved h. moves_planar items step moved pd planar h)
+
+pub always_planar : AlwaysPlanarLaw
+always_planar items step faces wanted pd planar h = (plain_move items step).never faces wanted (sym (never_refused items step pd planar) ∙ h)

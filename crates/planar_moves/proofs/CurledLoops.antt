@@ -38,7 +38,7 @@ use Rattle.planar_forms.proofs.PlanarForms.{planar_form}
 use Rattle.planar_moves.specs.Laws.{CurlOnLoopPlanarLaw}
 use Rattle.planar_moves.proofs.KeptPlaces.{kept_numbers, removed_from, crossing_count, count_labels, one_less, all_kept}
 use Rattle.planar_moves.proofs.RemovedCrossings.{kept_places, in_kept, kept_is, result_counts, new_long}
-use Rattle.planar_moves.proofs.SlidPlanes.{four_cases}
+use Rattle.planar_moves.proofs.AnewPlaces.{four_cases}
 use Rattle.planar_moves.proofs.SmoothedCrossings.{corner_place, not_head, here_is, later_is}
 use Rattle.planar_moves.proofs.UndonePlanes.{corner_label, corner_low, same_labels}
 

@@ -6,7 +6,9 @@ pub mod KeptPlaces
 pub mod RemovedCrossings
 pub mod SmoothedCrossings
 pub mod UndonePlanes
+pub mod AnewPlaces
 pub mod SlidPlanes
 pub mod CurledLoops
+pub mod NotPlanarFaults
 pub mod AllMoves
 mod Examples

@@ -1,29 +1,24 @@
 -- The result of R3 is planar exactly where the diagram is: its places are those before under other names, with one side of the triangle slid.
 --
--- Others cite: slide_planar, four_cases.
-use Rattle.std.proofs.Common.{◌≡◌, ◌≢◌, ◌↔◌, ◌≤◌, ◌<◌, ℕ, ◌+◌, ◌-◌, ◌*◌, ◌/◌, ◌%◌, ◌==◌, ◌||◌, Bool, true, false, cond, ltb, List, [], ◌∷◌, ◌++◌, length, slice_index, Some, refl, sym, ap, ◌∙◌, subst, arith, ⊎_elim}
-use Rattle.std.specs.List.{AllByRecursion, range_with_len, find}
-use Rattle.std.proofs.lemmas.Bool.{eq-eqb, eqb-true, cases_Bool, ltb-true}
+-- Others cite: slide_planar.
+use Rattle.std.proofs.Common.{◌≡◌, ◌≢◌, ◌↔◌, ◌≤◌, ◌<◌, ℕ, ◌+◌, ◌-◌, ◌*◌, ◌/◌, ◌%◌, ◌==◌, ◌||◌, Bool, true, false, cond, List, [], ◌∷◌, length, slice_index, Some, refl, sym, ap, ◌∙◌, subst, arith, ⊎_elim}
+use Rattle.std.specs.List.{range_with_len, find}
+use Rattle.std.proofs.lemmas.Bool.{eq-eqb, eqb-true, cases_Bool}
 use Rattle.std.proofs.lemmas.Bool.Decides.{nat_tests}
-use Rattle.std.proofs.lemmas.List.{length-append}
-use Rattle.list_lemmas.proofs.Items.{get_front}
 use Rattle.graph_parts.proofs.Numbered.{numbered-member as in_range, is_member-numbered as range_has}
 use Rattle.graph_parts.specs.Parts.{part_count}
 use Rattle.pd_reader.specs.declared.item.Item.{Item}
-use Rattle.pd_reader.specs.declared.item.Item.TheVariants as item
-use Rattle.pd_reader.specs.Items.{HasItsSlots}
 use Rattle.planar_check.specs.Places.{item_slots, place_labels, other_place}
 use Rattle.planar_check.specs.Planar.{IsPlanar}
 use Rattle.script_reader.specs.declared.step.Step.TheVariants.{R3}
 use Rattle.diagram_moves.specs.declared.fault.MoveFault.TheVariants.{NoCrossing, NotTriangle}
 use Rattle.diagram_moves.specs.Laws.{IsPairedDiagram}
 use Rattle.diagram_moves.specs.Moves.{plain, slot_triples, is_triangle, triangle_slots, triangle_rewritten, moved_slots, finished}
-use Rattle.diagram_moves.specs.Rewriting.{slot, crossing_at, crossing_labels}
+use Rattle.diagram_moves.specs.Rewriting.{slot, crossing_at}
 use Rattle.diagram_moves.specs.Steps.{Moved}
 use Rattle.diagram_moves.proofs.Accepted.{given_Ok, unless_Ok, finished_Ok, passing_test, small_triple, low_triple, small_triples}
 use Rattle.diagram_moves.proofs.NoNumbers.{nothing}
 use Rattle.diagram_moves.proofs.PlaceLemmas.{place_labels_are}
-use Rattle.diagram_moves.proofs.Rewritten.{anew}
 use Rattle.diagram_moves.proofs.Triangles.{found_after, also_after, too_after, around_new_here, around_new_there, around_new_beyond}
 use Rattle.move_results.proofs.FaceSteps.{number_from}
 use Rattle.move_results.proofs.PairedResults.{paired_again, triangle_edges}
@@ -32,79 +27,13 @@ use Rattle.rotation_parts.specs.Rotations.{cycle_count, pair_graph, IsPairing}
 use Rattle.rotation_parts.proofs.OtherNames.{renamed_counts}
 use Rattle.rotation_parts.proofs.Slides.{slide_counts}
 use Rattle.planar_forms.specs.PlaceSystems.{next_slot}
-use Rattle.planar_forms.proofs.PlacePairs.{other_is, slice_index-skip, label_twice, paired_places, long_is}
+use Rattle.planar_forms.proofs.PlacePairs.{other_is, label_twice, paired_places, long_is}
 use Rattle.planar_forms.proofs.PlanarForms.{planar_form}
 use Rattle.planar_moves.specs.Laws.{SlidePlanarLaw}
+use Rattle.planar_moves.proofs.AnewPlaces.{anew_long, anew_label, four_cases, moved_four}
 use Rattle.planar_moves.proofs.KeptPlaces.{crossing_count, count_labels}
 use Rattle.planar_moves.proofs.SmoothedCrossings.{corner_place}
 use Rattle.planar_moves.proofs.UndonePlanes.{corner_label, corner_low, same_labels}
-
--- ---- the labels of crossings that are written anew, where they stay
-anew_long : (h : ℕ → List ℕ → List ℕ) → ((c : ℕ) (slots : List ℕ) → length slots ≡ 4 → length (h c slots) ≡ 4) → (k : ℕ) (items : List Item) → AllByRecursion HasItsSlots items →
-    length (crossing_labels (anew h k items)) ≡ length (crossing_labels items)
-anew_long h four k [] s = refl
-anew_long h four k (item.X here ∷ rest) s =
-    let a = length-append (h k here) (crossing_labels (anew h (k + 1) rest)) in
-    let b = length-append here (crossing_labels rest) in
-    let c = four k here s.0 in
-    let d = s.0 in
-    let ih = anew_long h four (k + 1) rest s.1 in
-    omega (arith, a, b, c, d, ih)
-anew_long h four k (item.Loop l ∷ rest) s = anew_long h four k rest s.1
-
-anew_label : (h : ℕ → List ℕ → List ℕ) → ((c : ℕ) (slots : List ℕ) → length slots ≡ 4 → length (h c slots) ≡ 4) → (k : ℕ) (items : List Item) (p : ℕ) → AllByRecursion HasItsSlots items →
-    ((slots : List ℕ) → h (k + p / 4) slots ≡ slots) → p < length (crossing_labels items) → slice_index (crossing_labels (anew h k items)) p ≡ slice_index (crossing_labels items) p
-anew_label h four k [] p s stays l = absurd (omega (arith, l))
-anew_label h four k (item.X here ∷ rest) p s stays l =
-    let size = s.0 in
-    let new = h k here in
-    let new_size = four k here size in
-    let b = length-append here (crossing_labels rest) in
-    let R = crossing_labels (anew h (k + 1) rest) in
-    ⊎_elim
-    (λ t.
-    let low = ltb-true p 4 t in
-    let z : k + p / 4 ≡ k = omega (arith, low) in
-    let same : new ≡ here = sym (ap (λ c. h c here) z) ∙ stays here in
-    get_front new R p (omega (arith, low, new_size)) ∙ (ap (λ ns. slice_index ns p) same ∙ sym (get_front here (crossing_labels rest) p (omega (arith, low, size)))))
-    (λ g.
-    let high : 4 ≤ p = grind (arith, nat_tests, g) in
-    let q = p - 4 in
-    let at : p ≡ length new + q = omega (arith, high, new_size) in
-    let at_old : p ≡ length here + q = omega (arith, high, size) in
-    let z : k + p / 4 ≡ k + 1 + q / 4 = omega (arith, high) in
-    ap (slice_index (new ++ R)) at ∙ (slice_index-skip new R q
-    ∙ (anew_label h four (k + 1) rest q s.1 (λ slots. sym (ap (λ c. h c slots) z) ∙ stays slots) (omega (arith, l, b, size, high))
-    ∙ sym (ap (slice_index (here ++ crossing_labels rest)) at_old ∙ slice_index-skip here (crossing_labels rest) q))))
-    (cases_Bool (ltb p 4))
-anew_label h four k (item.Loop label ∷ rest) p s stays l = anew_label h four k rest p s.1 stays l
-
--- one of the four corners of a crossing
-pub four_cases : (T : ℕ → Type 0) (c k : ℕ) → 1 ≤ c → T (corner_place c k) → T (corner_place c (k + 1)) → T (corner_place c (k + 2)) → T (corner_place c (k + 3)) → (x : ℕ) → x / 4 + 1 ≡ c → T x
-four_cases T c k low t0 t1 t2 t3 x e =
-    let p0 = corner_place c k in let p1 = corner_place c (k + 1) in let p2 = corner_place c (k + 2) in let p3 = corner_place c (k + 3) in
-    ⊎_elim (λ t. subst T (sym (eqb-true x p0 t)) t0) (λ n0.
-    ⊎_elim (λ t. subst T (sym (eqb-true x p1 t)) t1) (λ n1.
-    ⊎_elim (λ t. subst T (sym (eqb-true x p2 t)) t2) (λ n2.
-    let a : x ≢ p0 = (λ w. (let t = eq-eqb x p0 w in grind (arith, t, n0))) in
-    let b : x ≢ p1 = (λ w. (let t = eq-eqb x p1 w in grind (arith, t, n1))) in
-    let d : x ≢ p2 = (λ w. (let t = eq-eqb x p2 w in grind (arith, t, n2))) in
-    let last : x ≡ p3 = omega (arith, low, e, a, b, d) in
-    subst T (sym last) t3)
-    (cases_Bool (x == p2)))
-    (cases_Bool (x == p1)))
-    (cases_Bool (x == p0))
-
-moved_four : (c d f : ℕ) (first second third : List ℕ) (s t u k : ℕ) (slots : List ℕ) → length slots ≡ 4 → length (triangle_slots c d f first second third s t u k slots) ≡ 4
-moved_four c d f first second third s t u k slots four =
-    elim (k == c) as (λ z. length (cond z (moved_slots s first (slot third (u + 3)) (slot second (t + 2)))
-    (cond (k == d) (moved_slots t second (slot first (s + 3)) (slot third (u + 2))) (cond (k == f) (moved_slots u third (slot second (t + 3)) (slot first (s + 2))) slots))) ≡ 4) [
-      | true ↦ refl
-      | false ↦ elim (k == d) as (λ z. length (cond z (moved_slots t second (slot first (s + 3)) (slot third (u + 2))) (cond (k == f) (moved_slots u third (slot second (t + 3)) (slot first (s + 2))) slots)) ≡ 4) [
-        | true ↦ refl
-        | false ↦ elim (k == f) as (λ z. length (cond z (moved_slots u third (slot second (t + 3)) (slot first (s + 2))) slots) ≡ 4) [ true ↦ refl | false ↦ four ]
-      ]
-    ]
 
 module _ (items : List Item) (pd : IsPairedDiagram items)
     (c : ℕ) (here : List ℕ) (found : crossing_at items c ≡ Some here)

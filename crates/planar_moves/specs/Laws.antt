@@ -1,5 +1,5 @@
 -- The laws of moves and planarity, for lists of items whose crossings have four slots and whose labels stand twice.
-use Rattle.std.specs.Prelude.{◌≡◌, ◌↔◌, ℕ, ◌==◌, true, false, List, Ok}
+use Rattle.std.specs.Prelude.{◌≡◌, ◌↔◌, ℕ, ◌==◌, true, false, List, Ok, Err}
 use Rattle.std.specs.Set.{is_member}
 use Rattle.pd_reader.specs.declared.item.Item.{Item}
 use Rattle.planar_check.specs.Places.{item_slots}
@@ -7,6 +7,7 @@ use Rattle.planar_check.specs.Planar.{IsPlanar}
 use Rattle.planar_check.specs.declared.sign.Sign.{Sign}
 use Rattle.script_reader.specs.declared.step.Step.{Step}
 use Rattle.script_reader.specs.declared.step.Step.TheVariants.{R2, R2Undo, R3, Curl, CurlUndo, BlowUp}
+use Rattle.diagram_moves.specs.declared.fault.MoveFault.TheVariants.{NotPlanar}
 use Rattle.diagram_moves.specs.Laws.{IsPairedDiagram}
 use Rattle.diagram_moves.specs.Moves.{move}
 use Rattle.diagram_moves.specs.Rewriting.{crossing_labels}
@@ -53,6 +54,11 @@ abbrev pub MovesPlanarLaw : Type 0
 MovesPlanarLaw =
     (items : List Item) (step : Step) (moved : Moved) → IsPairedDiagram items → IsPlanar item_slots items → move items step ≡ Ok moved → IsPlanar item_slots moved.items
 
--- So a step on a planar diagram is never refused because its result is not planar: it gives what the move gives.
+-- So a step on a planar diagram gives what the move gives: that its result has to be planar changes nothing.
 abbrev pub NeverRefusedLaw : Type 0
 NeverRefusedLaw = (items : List Item) (step : Step) → IsPairedDiagram items → IsPlanar item_slots items → applied items step ≡ move items step
+
+-- And the refusal `NotPlanar` never comes.
+abbrev pub AlwaysPlanarLaw : Type 0
+AlwaysPlanarLaw =
+    (items : List Item) (step : Step) (faces wanted : ℕ) → IsPairedDiagram items → IsPlanar item_slots items → applied items step ≡ Err (NotPlanar faces wanted) → ⊥

@@ -1,6 +1,6 @@
 //! The laws of moves and planarity: each function has an empty body, and its contract is the law. They are stated in `specs/Laws.antt`.
 
-ghost use Rattle.planar_moves.specs.Laws.{PushPlanarLaw, CurlPlanarLaw, CurlOnLoopPlanarLaw, BlowUpPlanarLaw, SlidePlanarLaw, PullPlanarLaw, CurlUndoPlanarLaw, MovesPlanarLaw, NeverRefusedLaw};
+ghost use Rattle.planar_moves.specs.Laws.{PushPlanarLaw, CurlPlanarLaw, CurlOnLoopPlanarLaw, BlowUpPlanarLaw, SlidePlanarLaw, PullPlanarLaw, CurlUndoPlanarLaw, MovesPlanarLaw, NeverRefusedLaw, AlwaysPlanarLaw};
 
 /// An accepted `R2` keeps a diagram planar, and makes none planar.
 pub fn push_planar()
@@ -42,7 +42,12 @@ pub fn moves_planar()
     ensures { MovesPlanarLaw }
 {}
 
-/// A step on a planar diagram is never refused because its result is not planar.
+/// A step on a planar diagram gives what the move gives: that its result has to be planar changes nothing.
 pub fn never_refused()
     ensures { NeverRefusedLaw }
+{}
+
+/// No step on a planar diagram is refused as `NotPlanar`.
+pub fn always_planar()
+    ensures { AlwaysPlanarLaw }
 {}

@@ -6,6 +6,6 @@
 mod laws;
 
 pub use laws::{
-    blow_up_planar, curl_on_loop_planar, curl_planar, curl_undo_planar, moves_planar,
-    never_refused, pull_planar, push_planar, slide_planar,
+    always_planar, blow_up_planar, curl_on_loop_planar, curl_planar, curl_undo_planar,
+    moves_planar, never_refused, pull_planar, push_planar, slide_planar,
 };

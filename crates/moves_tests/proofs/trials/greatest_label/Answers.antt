@@ -1,0 +1,16 @@
+use Rattle.std.proofs.Common.{◌≡◌, ◌≤◌, ℕ, List, length, drop, ap, arith, ◌∙◌, max}
+use Rattle.std.proofs.lemmas.List.{drop_all}
+use Rattle.pd_reader.specs.Diagrams.{labels}
+use Rattle.pd_reader.specs.Items.{item_labels}
+use Rattle.planar_check.specs.Components.{greatest}
+use Rattle.moves_tests.proofs.trials.greatest_label.Goals as goal
+
+-- at the end the greatest so far is that of all labels
+all_done : (found : ℕ) (k : ℕ) (ls all : List ℕ) → max found (greatest (drop k ls)) ≡ greatest ls → length ls ≤ k → ls ≡ all → found ≡ greatest all
+all_done found k ls all h past same =
+    let none = ap greatest (drop_all k ls past) in
+    let is = ap greatest same in
+    omega (arith, h, none, is)
+
+pub returns : goal.returns
+returns c = all_done c.loop-label.greatest c.loop-label.label-index c.deref-label-items.result.now (labels item_labels c.args.items.now) c.loop-label.invariant c.loop-label-test.false (c.deref-label-items.ensures.value ∙ c.in_ok-all.ensures.items)

@@ -1,0 +1,10 @@
+//! Tests of moves on drawn diagrams: every step that is accepted keeps the bracket up to its factor, none is refused because its result is
+//! not planar, and steps that are taken back give the diagram again.
+#![tactic(auto)]
+
+#[cfg(test)]
+mod steps;
+#[cfg(test)]
+mod tests;
+#[cfg(test)]
+mod trials;
