@@ -1,6 +1,6 @@
 -- A contraction of a network within its limits takes at most 2^54 turns: before each of 65,536 nodes at most 262,144 pairings, each
 -- glued to at most 1,048,576 terms.
-use Rattle.std.proofs.Common.{◌≡◌, ℕ, zero, suc, ◌+◌, ◌*◌, ◌^◌, ◌<◌, ◌≤◌, List, [], length, map, take, arith, inl, inr, sym, ◌∙◌, ap, subst}
+use Rattle.std.proofs.Common.{◌≡◌, ℕ, zero, suc, ◌+◌, ◌*◌, ◌^◌, ◌<◌, ◌≤◌, List, [], length, take, arith, inl, inr, sym, ap, subst}
 use Rattle.std.specs.List.{All, sum_by, range_with_len}
 use Rattle.std.proofs.Math.Nat.{mul-le-mul, suc-mul, zero-mul}
 use Rattle.std.proofs.lemmas.Bool.{cases_lt}
@@ -10,7 +10,7 @@ use Rattle.std.proofs.lemmas.List.Sums.{sum_by-cons}
 use Rattle.state_sums.specs.Networks.{Node, Network}
 use Rattle.arc_pairing.specs.Nodes.{IsShortNode}
 use Rattle.frontier_laws.specs.Orders.{View, node_at, taken}
-use Rattle.frontier_laws.specs.Turns.{pairing_count, turns_of}
+use Rattle.frontier_laws.specs.Turns.{pairing_count}
 use Rattle.frontier_laws.proofs.OrdersPlaces.{order_length}
 use Rattle.frontier_sweep.specs.Sweeps.{IsSwept}
 

@@ -1,3 +1,4 @@
 pub mod Colourings
 pub mod Normalisations
 pub mod Terms
+pub mod Laws

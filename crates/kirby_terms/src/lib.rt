@@ -3,11 +3,10 @@
 
 mod colour_term;
 mod colours;
+mod laws;
 mod normalisation;
 
 pub use colour_term::term;
 pub use colours::{colour_count, colouring, colouring_of};
+pub use laws::omega_inverses;
 pub use normalisation::{NormFault, normalise, omega};
-
-#[cfg(test)]
-mod tests;
