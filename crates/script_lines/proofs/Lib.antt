@@ -1,0 +1,5 @@
+pub mod ToldRefusals
+pub mod Accepted
+pub mod BracketLines
+pub mod ValuesExist
+pub mod SurgeryLines
