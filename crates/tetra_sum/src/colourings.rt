@@ -72,7 +72,7 @@ fn longer(
 /// The admissible colourings of the labels by the colours 0 to r-2, in dictionary order, the last label fastest: each face's colours
 /// x, y, z make an admissible vertex, and x+y+z is at most 2r-4. Labels are coloured one by one, and a colouring of the first labels is
 /// left as soon as a face that is wholly coloured forbids it. r is at least 3. The only error is want of memory.
-pub fn allowed(
+pub(crate) fn allowed(
     alloc: Global,
     r: u32,
     labels: &[u32],

@@ -4,7 +4,7 @@ ghost use Rattle.std.specs.Prelude.{◌≡◌, ◌≤◌};
 ghost use Rattle.tetra_sum.specs.Colourings.{colour_of, admits, allows_three, allows, are_allowed};
 
 /// The colour of a label. A colouring of the first labels leaves the others without one.
-fn colour_of(labels: &[u32], colours: &[u32], label: u32) -> Option<u32>
+pub(crate) fn colour_of(labels: &[u32], colours: &[u32], label: u32) -> Option<u32>
     ensures { result ≡ colour_of labels.now colours.now label }
 {
     for i in 0..labels.len() {

@@ -21,7 +21,7 @@ use wenzl_table::{Notes, Table};
 
 /// The value of a net at colours of its labels.
 #[derive(Drop)]
-pub struct Known {
+pub(crate) struct Known {
     /// The colours.
     pub colours: Vec<u32>,
     /// The value.
@@ -30,7 +30,7 @@ pub struct Known {
 
 /// A net with the values that are known.
 #[derive(Drop)]
-pub struct Store {
+pub(crate) struct Store {
     /// The net.
     pub net: PlanarNet,
     /// Its values, each at other colours.
@@ -51,7 +51,7 @@ fn find(known: &[Known], colours: &[u32]) -> Option<u64>
 
 impl Store {
     /// Two vertices joined by three edges, with no value yet.
-    pub fn theta(alloc: Global) -> Result<Store, AllocError>
+    pub(crate) fn theta(alloc: Global) -> Result<Store, AllocError>
         ensures net { IfOk result (λ store. store.net ≡ theta_net) }
         ensures store { IfOk result (λ store. (p : Parameters) → IsStore p store) }
     {
@@ -63,7 +63,7 @@ impl Store {
     }
 
     /// The edges of a tetrahedron, with no value yet.
-    pub fn tetrahedron(alloc: Global) -> Result<Store, AllocError>
+    pub(crate) fn tetrahedron(alloc: Global) -> Result<Store, AllocError>
         ensures net { IfOk result (λ store. store.net ≡ tetrahedron_net) }
         ensures store { IfOk result (λ store. (p : Parameters) → IsStore p store) }
     {
@@ -76,7 +76,7 @@ impl Store {
 
     /// The value of the net at these colours, which fit and have projectors, its nodes taken as they are listed; or the first limit that
     /// this meets. It is summed once, and known from then on. The notes are the table's. After an error nothing is said of what is known.
-    pub fn value(
+    pub(crate) fn value(
         &mut self,
         alloc: Global,
         table: &Table,

@@ -1,19 +1,22 @@
-//! What sums over coloured tetrahedra are made of (this project's own, after Turaev and Viro): the admissible colourings of the labels, and
-//! the values of the two nets that stand for faces and tetrahedra.
+//! Sums over coloured tetrahedra (this project's own, after Turaev and Viro).
 #![tactic(auto)]
 
+mod checks;
 mod colourings;
 mod colours;
 mod contraction;
 mod fault;
 mod known;
+mod labels;
+mod limits;
 mod nets;
+mod number;
 mod places;
+mod products;
+mod stores;
+mod sum;
+mod weight;
 
-pub use colourings::allowed;
 pub use fault::TetraFault;
-pub use known::{Known, Store};
-pub use places::{inverse_theta, tet_value};
-
-#[cfg(test)]
-mod tests;
+pub use limits::MOST_COLOURINGS;
+pub use sum::tetra_sum;

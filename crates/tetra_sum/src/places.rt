@@ -39,7 +39,7 @@ fn limit_at(number: u64, fault: SweepFault) -> TetraFault
 /// with that number. The notes are the table's.
 ///
 /// `Wide` and `Table` come exactly where the net's sum meets that limit, and `Theta` exactly where the theta shares a factor with m.
-pub fn inverse_theta(
+pub(crate) fn inverse_theta(
     alloc: Global,
     table: &Table,
     store: &mut Store,
@@ -80,7 +80,7 @@ pub fn inverse_theta(
 /// the table's.
 ///
 /// `Wide` and `Table` come exactly where the net's sum meets that limit.
-pub fn tet_value(
+pub(crate) fn tet_value(
     alloc: Global,
     table: &Table,
     store: &mut Store,
