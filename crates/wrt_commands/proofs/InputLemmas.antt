@@ -13,15 +13,20 @@ use Rattle.braid_trace.specs.declared.fault.BraidFault.{BraidFault}
 use Rattle.braid_trace.specs.declared.fault.BraidFault.TheVariants as braids
 use Rattle.braid_trace.specs.Faults.{IsBraidReading, IsBraidRefusal, cause as cause_of_braid}
 use Rattle.braid_trace.proofs.OneReading as braid_readings
+use Rattle.tetra_reader.specs.declared.fault.TetraText.{TetraText}
+use Rattle.tetra_reader.specs.declared.fault.TetraText.TheVariants as tetras
+use Rattle.tetra_reader.specs.Faults.{IsTetraReading, IsTetraRefusal, cause as cause_of_tetra}
+use Rattle.tetra_reader.proofs.OneReading as tetra_readings
 use Rattle.wrt_commands.specs.declared.refusal.Refusal.{Refusal}
 use Rattle.wrt_commands.specs.declared.refusal.Refusal.TheVariants as refusals
 use Rattle.wrt_commands.specs.declared.stop.Stop.{Stop}
 use Rattle.wrt_commands.specs.declared.text_refusal.Counted.TheVariants.{Items}
-use Rattle.wrt_commands.specs.Inputs.{IsTextOutcome, IsInputOutcome, IsPdOutcome, IsNetTextOutcome, IsScriptTextOutcome, HasOneOutcome, HasOutcome, IsBraidTextOutcome}
+use Rattle.wrt_commands.specs.Inputs.{IsTextOutcome, IsInputOutcome, IsPdOutcome, IsNetTextOutcome, IsScriptTextOutcome, HasOneOutcome, HasOutcome, IsBraidTextOutcome, IsTetraTextOutcome}
 use Rattle.wrt_request.specs.Stages.{after}
 use Rattle.wrt_commands.specs.Stops.{Is, Stops, Answers}
 use Rattle.wrt_commands.specs.TextRefusals.{counted_in, script_text_refusal, stop_of_text, text_refusal}
 use Rattle.wrt_commands.specs.BraidRefusals.{refusal_of_braid, stop_of_braid}
+use Rattle.wrt_commands.specs.TetraRefusals.{refusal_of_tetra, stop_of_tetra}
 use Rattle.wrt_commands.specs.TooLongRefusals.{past_limit}
 use Rattle.wrt_commands.proofs.StageLemmas.{stops_as, answers_as}
 
@@ -167,3 +172,27 @@ braid_stops bytes (braids.Strands given) h named = (braids.Strands given, ((λ e
 braid_stops bytes (braids.TooMany limit) h named = (braids.TooMany limit, ((λ e. cc), h, named), refl)
 braid_stops bytes (braids.Entry at strands) h named = (braids.Entry at strands, ((λ e. cc), h, named), refl)
 braid_stops bytes braids.Memory h named = tt
+
+-- ---- tetrahedra
+pub tetra_one_outcome : HasOneOutcome IsTetraTextOutcome
+tetra_one_outcome = one_outcome_of_text IsTetraReading refusal_of_tetra tetra_readings.readings_are_unique_lem
+
+tetra_told : (bytes : List ℕ) (fault : TetraText) → IsTetraReading bytes (Err fault) → (refusal : Refusal) × (refusal_of_tetra fault ≡ Some refusal)
+tetra_told bytes (tetras.Head at) h = (_, refl)
+tetra_told bytes (tetras.Number at) h = (_, refl)
+tetra_told bytes (tetras.Text at) h = (_, refl)
+tetra_told bytes (tetras.TooMany limit) h = (_, refl)
+tetra_told bytes (tetras.Face tetrahedron) h = (_, refl)
+tetra_told bytes tetras.Memory h = absurd (h.0 refl)
+
+pub tetra_outcome : HasOutcome IsTetraTextOutcome
+tetra_outcome bytes = let r = tetra_readings.readings_exist_lem bytes in text_of_reading IsTetraReading refusal_of_tetra tetra_told bytes r.0 r.1
+
+-- a fault of the reader
+pub tetra_stops : (bytes : List ℕ) (fault : TetraText) → IsTetraRefusal bytes fault → IsNamed bytes (cause_of_tetra fault) → Stops (IsTetraTextOutcome bytes) (stop_of_tetra fault)
+tetra_stops bytes (tetras.Head at) h named = (tetras.Head at, ((λ e. cc), h, named), refl)
+tetra_stops bytes (tetras.Number at) h named = (tetras.Number at, ((λ e. cc), h, named), refl)
+tetra_stops bytes (tetras.Text at) h named = (tetras.Text at, ((λ e. cc), h, named), refl)
+tetra_stops bytes (tetras.TooMany limit) h named = (tetras.TooMany limit, ((λ e. cc), h, named), refl)
+tetra_stops bytes (tetras.Face tetrahedron) h named = (tetras.Face tetrahedron, ((λ e. cc), h, named), refl)
+tetra_stops bytes tetras.Memory h named = tt

@@ -14,5 +14,6 @@ pub mod SurgeryLemmas
 pub mod FramingLemmas
 mod ScriptLemmas
 pub mod ReportedValues
+mod ScriptReports
 mod SameResidues
 mod Examples

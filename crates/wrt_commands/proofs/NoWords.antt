@@ -1,5 +1,5 @@
 -- A task is never refused as words are: each of its steps is refused by a later family.
-use Rattle.std.proofs.Common.{String, Global, ◌≡◌, ◌∙◌, inl, inr, ℕ, ℤ, Bool, cond, true, false, List, Option, Some, None, Result, Ok, Err, refl, sym, ap, subst, option_map}
+use Rattle.std.proofs.Common.{String, Global, ◌≡◌, ◌∙◌, inl, inr, ℕ, ℤ, Bool, cond, true, false, List, Option, Some, None, Result, Ok, Err, refl, sym, ap, subst, option_map, option_and_then}
 use Rattle.std.specs.Prelude.{MatchResult}
 use Rattle.root_quantum.specs.Parameters.{Parameters}
 use Rattle.pd_reader.specs.declared.item.Item.{Item}
@@ -21,7 +21,7 @@ use Rattle.wrt_values.specs.declared.value.Value.{Value}
 use Rattle.wrt_request.specs.Stages.{after}
 use Rattle.wrt_request.specs.declared.request.Sweep.{Sweep}
 use Rattle.wrt_request.specs.declared.request.Task.{Task}
-use Rattle.wrt_request.specs.declared.request.Task.TheVariants.{Bracket, Colored, Net, Torus, Wrt, Moves, Braid}
+use Rattle.wrt_request.specs.declared.request.Task.TheVariants.{Bracket, Colored, Net, Torus, Wrt, Moves, Braid, Tetrahedra}
 use Rattle.wrt_commands.specs.declared.opening.Opened.{Opened}
 use Rattle.wrt_commands.specs.declared.refusal.Refusal.{Refusal}
 use Rattle.wrt_commands.specs.declared.refusal.Refusal.TheVariants.{Words, Script, Value as ValueRefused, Text as TextRefused}
@@ -34,7 +34,7 @@ use Rattle.wrt_commands.specs.ColourFits.{fits, fit_components}
 use Rattle.wrt_commands.specs.ColouredReports.{fitted_report, coloured_report}
 use Rattle.wrt_commands.specs.DiagramReports.{planar, item_order, diagram_report}
 use Rattle.wrt_commands.specs.FramingFits.{against_size, fit_framings}
-use Rattle.wrt_commands.specs.Inputs.{IsInputOutcome, IsTextOutcome, IsPdOutcome, IsNetTextOutcome, IsScriptTextOutcome, IsBraidTextOutcome}
+use Rattle.wrt_commands.specs.Inputs.{IsInputOutcome, IsTextOutcome, IsPdOutcome, IsNetTextOutcome, IsScriptTextOutcome, IsBraidTextOutcome, IsTetraTextOutcome}
 use Rattle.wrt_commands.specs.MovesReports.{first_drawing, lines, moves_report}
 use Rattle.wrt_commands.specs.NetReports.{planar_net, net_order, fit_labels, fitted_net_report, net_report}
 use Rattle.wrt_commands.specs.Outcomes.{Outcome, IsTaskOutcome}
@@ -44,6 +44,17 @@ use Rattle.wrt_commands.specs.SurgeryReports.{framed_report, surgery_report}
 use Rattle.wrt_commands.specs.TextRefusals.{counted_in, refusal_of_text, script_text_refusal, text_refusal}
 use Rattle.wrt_commands.specs.BraidOutcomes.{braid_report}
 use Rattle.wrt_commands.specs.BraidRefusals.{refusal_of_braid}
+use Rattle.wrt_commands.specs.TetraOutcomes.{by_refusal, tetra_report}
+use Rattle.wrt_commands.specs.TetraRefusals.{refusal_of_sum, refusal_of_tetra}
+use Rattle.tetra_reader.specs.declared.fault.TetraText.{TetraText}
+use Rattle.tetra_reader.specs.declared.fault.TetraText.TheVariants as tetras
+use Rattle.tetra_reader.specs.declared.item.TetraItem.{TetraItem}
+use Rattle.tetra_reader.specs.Faults.{IsTetraReading}
+use Rattle.tetra_sum.specs.declared.fault.TetraFault.{TetraFault}
+use Rattle.tetra_sum.specs.declared.fault.TetraFault.TheVariants as sums
+use Rattle.tetra_sum.specs.Refusals as tetra_refusals
+use Rattle.tetra_sum.specs.Sums.{weight_sum}
+use Rattle.wrt_commands.specs.Reports.{report_of}
 use Rattle.braid_trace.specs.declared.fault.BraidFault.{BraidFault}
 use Rattle.braid_trace.specs.declared.fault.BraidFault.TheVariants as braids
 use Rattle.braid_trace.specs.Braids.{BraidWord}
@@ -169,6 +180,24 @@ of_braids (braids.TooMany limit) words e = absurd (cc)
 of_braids (braids.Entry at strands) words e = absurd (cc)
 of_braids braids.Memory words e = absurd (cc)
 
+-- texts of tetrahedra are refused as texts or as tetrahedra, and the sums as values or as tetrahedra
+of_tetras : (fault : TetraText) (words : WordsRefusal) → refusal_of_tetra fault ≡ Some (Words words) → ⊥
+of_tetras (tetras.Head at) words e = absurd (cc)
+of_tetras (tetras.Number at) words e = absurd (cc)
+of_tetras (tetras.Text at) words e = absurd (cc)
+of_tetras (tetras.TooMany limit) words e = absurd (cc)
+of_tetras (tetras.Face tetrahedron) words e = absurd (cc)
+of_tetras tetras.Memory words e = absurd (cc)
+
+summed_no_words : (report : List ℕ) (fault : Option TetraFault) → IsNoWords (by_refusal report (option_and_then refusal_of_sum fault))
+summed_no_words report None = λ words e. absurd (cc)
+summed_no_words report (Some (sums.TooMany labels limit)) = λ words e. absurd (cc)
+summed_no_words report (Some (sums.NoInverse index common)) = λ words e. absurd (cc)
+summed_no_words report (Some (sums.Wide colouring step ends)) = λ words e. absurd (cc)
+summed_no_words report (Some (sums.Table colouring step)) = λ words e. absurd (cc)
+summed_no_words report (Some (sums.Theta colouring face common)) = λ words e. absurd (cc)
+summed_no_words report (Some sums.Memory) = λ words e. absurd (cc)
+
 input_no_words : {A B : Type 0} (is_text : List ℕ → Result A Refusal → Type 0) (next : A → Result B Refusal) (bytes : List ℕ) (outcome : Result B Refusal)
     → ((read : Result A Refusal) → is_text bytes read → IsNoWords read) → ((value : A) → IsNoWords (next value)) → IsInputOutcome is_text next bytes outcome → IsNoWords outcome
 input_no_words is_text next bytes outcome texts values (inl long) = λ words e. let told = long.1 in absurd (cc)
@@ -183,6 +212,9 @@ net_text_no_words bytes read h = text_no_words IsNetReading (text_refusal Items)
 braid_no_words : (bytes : List ℕ) (read : Result BraidWord Refusal) → IsBraidTextOutcome bytes read → IsNoWords read
 braid_no_words bytes read h = text_no_words IsBraidReading refusal_of_braid of_braids bytes read h
 
+tetra_no_words : (bytes : List ℕ) (read : Result (List TetraItem) Refusal) → IsTetraTextOutcome bytes read → IsNoWords read
+tetra_no_words bytes read h = text_no_words IsTetraReading refusal_of_tetra of_tetras bytes read h
+
 script_text_no_words : (bytes : List ℕ) (read : Result ScriptParts Refusal) → IsScriptTextOutcome bytes read → IsNoWords read
 script_text_no_words bytes read h = text_no_words IsScriptReading script_text_refusal (λ fault. of_items (refusal_of_text (counted_in fault) fault)) bytes read h
 
@@ -195,6 +227,8 @@ task_no_words p (Moves framings) bytes outcome h = input_no_words IsScriptTextOu
 task_no_words p (Wrt framings workers even sweep) bytes outcome h =
     input_no_words IsPdOutcome (surgery_report p sweep (framing_list framings)) bytes outcome (pd_no_words bytes) (surgery_no_words p sweep (framing_list framings)) h
 task_no_words p Braid bytes outcome h = input_no_words IsBraidTextOutcome (braid_report p) bytes outcome (braid_no_words bytes) (λ braid. reported _) h
+task_no_words p Tetrahedra bytes outcome h =
+    input_no_words IsTetraTextOutcome (tetra_report p) bytes outcome (tetra_no_words bytes) (λ items. summed_no_words (report_of (weight_sum p items) None) (tetra_refusals.refusal p items)) h
 
 -- NO TASK STOPS FOR ITS WORDS
 pub no_words_stop : (asked : Opened) (bytes : List ℕ) (result : Result (String Global) Stop) (R : String Global → Type 0) → MatchResult result R (IsStoppedAt (Ok asked) bytes) → (words : WordsRefusal)

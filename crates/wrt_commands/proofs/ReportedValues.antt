@@ -1,10 +1,8 @@
 -- What a report tells: one comes only where the list of the order is one of the crossings and the sums meet no limit, and then its
 -- residue is the value of what the bytes spell, which names no order and no workers.
-use Rattle.std.proofs.Common.{◌≡◌, ◌∙◌, inl, inr, ℕ, ℤ, Bool, cond, true, false, List, Option, Some, None, Result, Ok, Err, refl, sym, ap, subst}
-use Rattle.root_quantum.specs.Parameters.{Parameters}
+use Rattle.std.proofs.Common.{◌≡◌, ◌∙◌, ℕ, ℤ, Bool, cond, true, false, List, Option, Some, None, Result, Ok, Err, refl, ap, option_and_then}
 use Rattle.pd_reader.specs.declared.item.Item.{Item}
 use Rattle.diagram_brackets.specs.Brackets.{bracket}
-use Rattle.braid_trace.specs.Braids.{BraidWord}
 use Rattle.braid_closures.specs.Closures.{closed}
 use Rattle.cables.specs.Nets.{coloured_net}
 use Rattle.coloured_values.specs.Coloured.{coloured}
@@ -18,21 +16,24 @@ use Rattle.wrt_values.specs.declared.fault.ValueRefusal.{ValueRefusal}
 use Rattle.wrt_values.specs.declared.value.Value.{Value}
 use Rattle.skein_network.specs.Refusals.{net_colour}
 use Rattle.wrt_values.proofs.OneResidue.{one_residue_law, coloured_residue_law, net_residue_law}
+use Rattle.tetra_sum.specs.Refusals.{refusal}
+use Rattle.tetra_sum.specs.Sums.{weight_sum}
 use Rattle.wrt_request.specs.declared.request.Sweep.{Sweep}
 use Rattle.wrt_commands.specs.declared.refusal.Refusal.{Refusal}
 use Rattle.wrt_commands.specs.declared.refusal.Refusal.TheVariants.{Value as ValueRefused}
-use Rattle.wrt_commands.specs.BraidOutcomes.{braid_report}
 use Rattle.wrt_commands.specs.ColourFits.{fit_components}
-use Rattle.wrt_commands.specs.ColouredReports.{fitted_report, coloured_report}
-use Rattle.wrt_commands.specs.DiagramReports.{item_order, diagram_report}
+use Rattle.wrt_commands.specs.ColouredReports.{fitted_report}
+use Rattle.wrt_commands.specs.DiagramReports.{item_order}
 use Rattle.wrt_commands.specs.FramingFits.{against_size, fit_framings}
-use Rattle.wrt_commands.specs.Laws.{IsReportOf, ReportsAreOfBrackets, ReportsAreOfColouredValues, ReportsAreOfNetValues, ReportsAreOfSurgeryValues, ReportsAreOfBraidTraces}
-use Rattle.wrt_commands.specs.NetReports.{net_order, fit_labels, fitted_net_report, net_report}
+use Rattle.wrt_commands.specs.Laws.{IsReportOf, ReportsAreOfBrackets, ReportsAreOfColouredValues, ReportsAreOfNetValues, ReportsAreOfSurgeryValues, ReportsAreOfBraidTraces, ReportsAreOfTetrahedra}
+use Rattle.wrt_commands.specs.NetReports.{net_order, fit_labels, fitted_net_report}
 use Rattle.wrt_commands.specs.Reports.{report_of}
+use Rattle.wrt_commands.specs.TetraOutcomes.{by_refusal}
+use Rattle.wrt_commands.specs.TetraRefusals.{refusal_of_sum}
 use Rattle.wrt_request.specs.Stages.{after}
 use Rattle.wrt_commands.specs.Stops.{refused_as}
-use Rattle.wrt_commands.specs.SurgeryReports.{framed_report, surgery_report}
-use Rattle.wrt_commands.proofs.DiagramLemmas.{with_value, with_order, with_plane}
+use Rattle.wrt_commands.specs.SurgeryReports.{framed_report}
+use Rattle.wrt_commands.proofs.DiagramLemmas.{with_value, with_plane}
 use Rattle.wrt_commands.proofs.SurgeryLemmas.{surgery_residue_law}
 
 -- ---- the steps of a report
@@ -109,3 +110,11 @@ pub reports_are_of_braid_traces_law : ReportsAreOfBraidTraces
 reports_are_of_braid_traces_law p braid report h =
     let e : report ≡ report_of (bracket p (closed braid)) None = cc in
     (None, e)
+
+-- ---- tetrahedra
+summed : (residue : ℕ) (refused : Option Refusal) (report : List ℕ) → by_refusal (report_of residue None) refused ≡ Ok report → IsReportOf residue report
+summed residue None report h = let e : report ≡ report_of residue None = cc in (None, e)
+summed residue (Some refusal) report h = absurd (cc)
+
+pub reports_are_of_tetrahedra_law : ReportsAreOfTetrahedra
+reports_are_of_tetrahedra_law p items report h = summed (weight_sum p items) (option_and_then refusal_of_sum (refusal p items)) report h

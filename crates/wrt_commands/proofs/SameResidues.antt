@@ -1,7 +1,6 @@
 -- Two reports of one task have the same lines of residues: those of a value of what the bytes spell, which names no order and no workers.
-use Rattle.std.proofs.Common.{◌≡◌, ◌∙◌, inl, inr, ℕ, ℤ, List, [], ◌∷◌, ◌++◌, decimal, Option, Some, None, Result, Ok, Err, refl, sym, ap, subst, append_assoc, append-nil}
+use Rattle.std.proofs.Common.{◌≡◌, ◌∙◌, inl, inr, ℕ, List, [], ◌∷◌, ◌++◌, decimal, None, Result, Ok, Err, refl, sym, ap, subst, append_assoc, append-nil}
 use Rattle.root_quantum.specs.Parameters.{Parameters}
-use Rattle.pd_reader.specs.declared.item.Item.{Item}
 use Rattle.pd_reader.specs.Torus.{torus_items}
 use Rattle.diagram_brackets.specs.Brackets.{bracket}
 use Rattle.braid_closures.specs.Closures.{closed}
@@ -9,26 +8,28 @@ use Rattle.cables.specs.Nets.{coloured_net}
 use Rattle.coloured_values.specs.Coloured.{coloured}
 use Rattle.coloured_values.specs.Surgery.{surgery}
 use Rattle.skein_network.specs.Refusals.{net_colour}
+use Rattle.tetra_sum.specs.Sums.{weight_sum}
 use Rattle.wrt_request.specs.Stages.{after}
 use Rattle.wrt_request.specs.declared.request.Task.{Task}
-use Rattle.wrt_request.specs.declared.request.Task.TheVariants.{Bracket, Colored, Net, Torus, Wrt, Moves, Braid}
+use Rattle.wrt_request.specs.declared.request.Task.TheVariants.{Bracket, Colored, Net, Torus, Wrt, Moves, Braid, Tetrahedra}
 use Rattle.wrt_commands.specs.declared.opening.Opened.{Opened}
 use Rattle.wrt_commands.specs.declared.refusal.Refusal.{Refusal}
 use Rattle.wrt_commands.specs.BraidOutcomes.{braid_report}
 use Rattle.wrt_commands.specs.ColouredReports.{coloured_report}
 use Rattle.wrt_commands.specs.DiagramReports.{diagram_report}
-use Rattle.wrt_commands.specs.Inputs.{IsInputOutcome, IsPdOutcome, IsNetTextOutcome, IsScriptTextOutcome, IsBraidTextOutcome, HasOneOutcome}
+use Rattle.wrt_commands.specs.Inputs.{IsInputOutcome, IsPdOutcome, IsNetTextOutcome, IsScriptTextOutcome, IsBraidTextOutcome, IsTetraTextOutcome, HasOneOutcome}
 use Rattle.wrt_commands.specs.Laws.{IsReportOf, IsReportWith, SameResidues, plain_task, AskAlike}
 use Rattle.wrt_commands.specs.MovesOutcomes.{IsMovesOutcome}
 use Rattle.wrt_commands.specs.MovesReports.{moves_report}
 use Rattle.wrt_commands.specs.NetReports.{net_report}
 use Rattle.wrt_commands.specs.Openings.{opening}
 use Rattle.wrt_commands.specs.Outcomes.{IsTaskOutcome, IsOutcomeAt}
-use Rattle.wrt_commands.specs.Reports.{report_of, turns_line}
+use Rattle.wrt_commands.specs.Reports.{turns_line}
 use Rattle.wrt_commands.specs.SurgeryReports.{surgery_report}
+use Rattle.wrt_commands.specs.TetraOutcomes.{tetra_report}
 use Rattle.wrt_commands.specs.WrtOutcomes.{framing_list}
-use Rattle.wrt_commands.proofs.InputLemmas.{one_input, pd_one_outcome, net_one_outcome, script_one_outcome, braid_one_outcome}
-use Rattle.wrt_commands.proofs.ReportedValues.{reports_are_of_braid_traces_law, reports_are_of_brackets_law, reports_are_of_coloured_values_law, reports_are_of_net_values_law, reports_are_of_surgery_values_law}
+use Rattle.wrt_commands.proofs.InputLemmas.{one_input, pd_one_outcome, net_one_outcome, script_one_outcome, braid_one_outcome, tetra_one_outcome}
+use Rattle.wrt_commands.proofs.ReportedValues.{reports_are_of_braid_traces_law, reports_are_of_brackets_law, reports_are_of_coloured_values_law, reports_are_of_net_values_law, reports_are_of_surgery_values_law, reports_are_of_tetrahedra_law}
 
 -- the line of a residue
 abbrev line_of : ℕ → List ℕ
@@ -72,6 +73,7 @@ AreLinesOf p (Torus crossings sweep) bytes lines = lines ≡ line_of (bracket p 
 AreLinesOf p (Wrt framings workers even sweep) bytes lines = IsLineOf IsPdOutcome (λ items. surgery p (record { items = items; framings = framing_list framings })) bytes lines
 AreLinesOf p (Moves framings) bytes lines = IsMovesOutcome p framings bytes (Ok lines)
 AreLinesOf p Braid bytes lines = IsLineOf IsBraidTextOutcome (λ braid. bracket p (closed braid)) bytes lines
+AreLinesOf p Tetrahedra bytes lines = IsLineOf IsTetraTextOutcome (weight_sum p) bytes lines
 
 lines_of : (p : Parameters) (task : Task) (bytes report : List ℕ) → IsTaskOutcome p task bytes (Ok report) → (lines : List ℕ) × AreLinesOf p task bytes lines × IsReportWith lines report
 lines_of p (Bracket sweep) bytes report h = line_of_text IsPdOutcome (bracket p) (diagram_report p sweep) (reports_are_of_brackets_law p sweep) bytes report h
@@ -86,6 +88,7 @@ lines_of p (Wrt framings workers even sweep) bytes report h =
     line_of_text IsPdOutcome (λ items. surgery p (record { items = items; framings = list })) (surgery_report p sweep list) (reports_are_of_surgery_values_law p sweep list) bytes report h
 lines_of p (Moves framings) bytes report h = (report, h, without_turns report)
 lines_of p Braid bytes report h = line_of_text IsBraidTextOutcome (λ braid. bracket p (closed braid)) (braid_report p) (reports_are_of_braid_traces_law p) bytes report h
+lines_of p Tetrahedra bytes report h = line_of_text IsTetraTextOutcome (weight_sum p) (tetra_report p) (reports_are_of_tetrahedra_law p) bytes report h
 
 of_plain : (p : Parameters) (task : Task) (bytes lines : List ℕ) → AreLinesOf p task bytes lines → AreLinesOf p (plain_task task) bytes lines
 of_plain p (Bracket sweep) bytes lines h = h
@@ -95,6 +98,7 @@ of_plain p (Torus crossings sweep) bytes lines h = h
 of_plain p (Wrt framings workers even sweep) bytes lines h = h
 of_plain p (Moves framings) bytes lines h = h
 of_plain p Braid bytes lines h = h
+of_plain p Tetrahedra bytes lines h = h
 
 same_lines : (p : Parameters) (task : Task) (bytes a b : List ℕ) → AreLinesOf p task bytes a → AreLinesOf p task bytes b → a ≡ b
 same_lines p (Bracket sweep) bytes a b h k = one_line IsPdOutcome (bracket p) pd_one_outcome bytes a b h k
@@ -106,6 +110,7 @@ same_lines p (Wrt framings workers even sweep) bytes a b h k =
 same_lines p (Moves framings) bytes a b h k =
     let e = one_input IsScriptTextOutcome (moves_report p framings) bytes script_one_outcome (Ok a) (Ok b) h k in cc
 same_lines p Braid bytes a b h k = one_line IsBraidTextOutcome (λ braid. bracket p (closed braid)) braid_one_outcome bytes a b h k
+same_lines p Tetrahedra bytes a b h k = one_line IsTetraTextOutcome (weight_sum p) tetra_one_outcome bytes a b h k
 
 -- ---- two tasks that ask alike
 of_tasks : (p : Parameters) (x y : Task) (bytes report other : List ℕ) → plain_task x ≡ plain_task y → IsTaskOutcome p x bytes (Ok report) → IsTaskOutcome p y bytes (Ok other)

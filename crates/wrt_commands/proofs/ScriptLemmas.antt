@@ -1,5 +1,5 @@
 -- Scripts of texts: their labels are at most 999,999, so that there is room for the new labels of all steps; and their reports, line by line.
-use Rattle.std.proofs.Common.{◌≡◌, ◌∙◌, ℕ, ◌+◌, ◌<◌, ◌≤◌, List, [], ◌∷◌, ◌++◌, drop, drop-cons, length, slice_index_or, decimal, Option, Result, Ok, Err, ℤ, refl, sym, ap, subst, arith, add-one, append_assoc, append-nil}
+use Rattle.std.proofs.Common.{◌≡◌, ◌∙◌, ℕ, ◌+◌, ◌<◌, ◌≤◌, List, [], ◌∷◌, ◌++◌, drop, drop-cons, length, slice_index_or, decimal, Option, Result, Ok, ℤ, refl, sym, ap, subst, arith, add-one, append_assoc, append-nil}
 use Rattle.std.proofs.Math.ListN.{drop_of_length-le}
 use Rattle.std.specs.List.{AllByRecursion}
 use Rattle.text_shapes.specs.Tokens.{IsNumber}

@@ -7,8 +7,9 @@ use Rattle.script_values.specs.declared.fault.ScriptRefusal.TheVariants as scrip
 use Rattle.script_values.specs.declared.move_refusal.MoveRefusal.{MoveRefusal}
 use Rattle.script_values.specs.declared.move_refusal.MoveRefusal.TheVariants as moves
 use Rattle.wrt_commands.specs.declared.refusal.Refusal.{Refusal}
-use Rattle.wrt_commands.specs.declared.refusal.Refusal.TheVariants.{Words, Parameters, TooLong, Text, Plane, Arguments, Value, Script, Braid}
+use Rattle.wrt_commands.specs.declared.refusal.Refusal.TheVariants.{Words, Parameters, TooLong, Text, Plane, Arguments, Value, Script, Braid, Tetra}
 use Rattle.wrt_commands.specs.declared.braid_refusal.BraidRefusal.TheVariants as braids
+use Rattle.wrt_commands.specs.declared.tetra_refusal.TetraRefusal.TheVariants as tetras
 use Rattle.wrt_commands.specs.declared.status.Status.{Status}
 use Rattle.wrt_commands.specs.declared.status.Status.TheVariants as statuses
 use Rattle.wrt_commands.specs.declared.text_refusal.TextRefusal.TheVariants as texts
@@ -66,6 +67,9 @@ refused_status (Text (texts.Label label count)) = refl
 refused_status (Braid braids.Strands) = refl
 refused_status (Braid (braids.TooMany limit)) = refl
 refused_status (Braid (braids.Entry at strands)) = refl
+refused_status (Tetra (tetras.Face tetrahedron)) = refl
+refused_status (Tetra (tetras.TooMany labels)) = refl
+refused_status (Tetra (tetras.Theta colouring face common)) = refl
 refused_status (Plane refusal) = refl
 refused_status (Arguments refusal) = refl
 refused_status (Value refusal) = value_status refusal

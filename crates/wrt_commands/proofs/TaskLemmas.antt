@@ -3,7 +3,7 @@ use Rattle.std.proofs.Common.{String, Global, ◌≡◌, ◌∙◌, ◌<◌, inl
 use Rattle.std.specs.Prelude.{MatchResult, string_bytes}
 use Rattle.wrt_request.specs.declared.request.Sweep.{Sweep}
 use Rattle.wrt_request.specs.declared.request.Task.{Task}
-use Rattle.wrt_request.specs.declared.request.Task.TheVariants.{Bracket, Colored, Net, Torus, Wrt, Moves, Braid}
+use Rattle.wrt_request.specs.declared.request.Task.TheVariants.{Bracket, Colored, Net, Wrt, Moves, Braid, Tetrahedra}
 use Rattle.wrt_commands.specs.declared.opening.Opened.{Opened}
 use Rattle.wrt_commands.specs.declared.refusal.Refusal.TheVariants as refusals
 use Rattle.wrt_commands.specs.declared.stop.Stop.{Stop}
@@ -53,3 +53,7 @@ module _ (asked : Opened) where
   pub braid_stopped : (left : Option (List ℕ)) (of stop : Stop) → asked.task ≡ Braid → stop ≡ of → IsUnread left of
       → (bytes : List ℕ) × IsTold left bytes × IsStoppedAt (Ok asked) bytes stop
   braid_stopped = unread_task Braid refl (λ bytes long. inl (long, refl))
+
+  pub tetrahedra_stopped : (left : Option (List ℕ)) (of stop : Stop) → asked.task ≡ Tetrahedra → stop ≡ of → IsUnread left of
+      → (bytes : List ℕ) × IsTold left bytes × IsStoppedAt (Ok asked) bytes stop
+  tetrahedra_stopped = unread_task Tetrahedra refl (λ bytes long. inl (long, refl))

@@ -9,18 +9,22 @@
 --     IsNetTextOutcome bytes outcome                    the shape of nets: `Net[..]`
 --     IsScriptTextOutcome bytes outcome                 the shape of scripts: `Moves[..]`
 --     IsBraidTextOutcome bytes outcome                  the shape of braids: `BR[n,{..}]`
+--     IsTetraTextOutcome bytes outcome                  the shape of tetrahedra: `TV[..]`
 use Rattle.std.specs.Prelude.{◌≡◌, ◌⊎◌, ℕ, ◌<◌, ◌≤◌, List, length, Option, Some, Result, Ok, Err}
 use Rattle.braid_trace.specs.Braids.{BraidWord}
 use Rattle.braid_trace.specs.Faults.{IsBraidReading}
 use Rattle.pd_reader.specs.declared.item.Item.{Item}
 use Rattle.pd_reader.specs.declared.item.NetItem.{NetItem}
 use Rattle.pd_reader.specs.Refusals.{IsPdReading, IsNetReading}
+use Rattle.tetra_reader.specs.declared.item.TetraItem.{TetraItem}
+use Rattle.tetra_reader.specs.Faults.{IsTetraReading}
 use Rattle.script_reader.specs.ScriptTexts.{ScriptParts, IsScriptReading}
 use Rattle.wrt_commands.specs.declared.refusal.Refusal.{Refusal}
 use Rattle.wrt_commands.specs.declared.refusal.Refusal.TheVariants.{TooLong}
 use Rattle.wrt_commands.specs.declared.text_refusal.Counted.TheVariants.{Items}
 use Rattle.wrt_commands.specs.TextRefusals.{text_refusal, script_text_refusal}
 use Rattle.wrt_commands.specs.BraidRefusals.{refusal_of_braid}
+use Rattle.wrt_commands.specs.TetraRefusals.{refusal_of_tetra}
 use Rattle.wrt_commands.specs.TooLongRefusals.{past_limit}
 use Rattle.wrt_request.specs.Stages.{after}
 
@@ -62,3 +66,7 @@ IsScriptTextOutcome = IsTextOutcome IsScriptReading script_text_refusal
 -- Braids: with limits of their own.
 abbrev pub IsBraidTextOutcome : List ℕ → Result BraidWord Refusal → Type 0
 IsBraidTextOutcome = IsTextOutcome IsBraidReading refusal_of_braid
+
+-- Tetrahedra: their limit is on items, and each face is listed.
+abbrev pub IsTetraTextOutcome : List ℕ → Result (List TetraItem) Refusal → Type 0
+IsTetraTextOutcome = IsTextOutcome IsTetraReading refusal_of_tetra

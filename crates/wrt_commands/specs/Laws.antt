@@ -8,8 +8,10 @@
 --     ReportsAreOfNetValues  the same for a net
 --     ReportsAreOfSurgeryValues    the residue that the report of a diagram with framings tells is its surgery value
 --     ReportsAreOfBraidTraces      the residue that the report of a braid tells is the bracket of its closure
+--     ReportsAreOfScripts          the lines of a report of a script are those of its diagrams, and follow from one another as its steps say
+--     ReportsAreOfTetrahedra       the residue that the report of tetrahedra tells is the sum of the weights over all colourings
 --     ReportsAreOfColouredValues   the residue that the report of a diagram with colours tells is its value with these colours
-use Rattle.std.specs.Prelude.{◌≡◌, ℕ, ℤ, false, List, ◌++◌, Option, Result, Ok, Err}
+use Rattle.std.specs.Prelude.{◌≡◌, ℕ, ℤ, false, List, ◌++◌, Option, Some, None, Result, Ok, Err}
 use Rattle.root_quantum.specs.Parameters.{Parameters}
 use Rattle.pd_reader.specs.declared.item.Item.{Item}
 use Rattle.pd_reader.specs.declared.item.NetItem.{NetItem}
@@ -20,20 +22,28 @@ use Rattle.cables.specs.Nets.{coloured_net}
 use Rattle.coloured_values.specs.Coloured.{coloured}
 use Rattle.coloured_values.specs.Surgery.{surgery}
 use Rattle.skein_network.specs.Refusals.{net_colour}
+use Rattle.script_reader.specs.ScriptTexts.{ScriptParts}
+use Rattle.script_lines.specs.Laws.{AreBracketLines, AreSurgeryLines}
+use Rattle.tetra_reader.specs.declared.item.TetraItem.{TetraItem}
+use Rattle.tetra_sum.specs.Sums.{weight_sum}
 use Rattle.wrt_request.specs.declared.order.OrderWord.TheVariants.{Listed}
 use Rattle.wrt_request.specs.declared.request.Sweep.{Sweep}
 use Rattle.wrt_request.specs.declared.request.Task.{Task}
-use Rattle.wrt_request.specs.declared.request.Task.TheVariants.{Bracket, Colored, Net, Torus, Wrt, Moves, Braid}
+use Rattle.wrt_request.specs.declared.request.Task.TheVariants.{Bracket, Colored, Net, Torus, Wrt, Moves, Braid, Tetrahedra}
 use Rattle.wrt_commands.specs.declared.opening.Opened.{Opened}
 use Rattle.wrt_commands.specs.declared.refusal.Refusal.{Refusal}
 use Rattle.wrt_commands.specs.BraidOutcomes.{braid_report}
 use Rattle.wrt_commands.specs.ColouredReports.{coloured_report}
 use Rattle.wrt_commands.specs.DiagramReports.{diagram_report}
+use Rattle.wrt_commands.specs.Inputs.{IsScriptTextOutcome}
+use Rattle.wrt_commands.specs.MovesOutcomes.{IsMovesOutcome}
+use Rattle.wrt_commands.specs.MovesReports.{lines}
 use Rattle.wrt_commands.specs.NetReports.{net_report}
 use Rattle.wrt_commands.specs.Openings.{opening}
 use Rattle.wrt_commands.specs.Outcomes.{Outcome, IsOutcome}
 use Rattle.wrt_commands.specs.Reports.{report_of, turns_line}
 use Rattle.wrt_commands.specs.SurgeryReports.{surgery_report}
+use Rattle.wrt_commands.specs.TetraOutcomes.{tetra_report}
 
 -- words and bytes come to at most one outcome
 abbrev pub OutcomesAreUnique : Type 0
@@ -71,6 +81,27 @@ ReportsAreOfNetValues =
 abbrev pub ReportsAreOfBraidTraces : Type 0
 ReportsAreOfBraidTraces = (p : Parameters) (braid : BraidWord) (report : List ℕ) → braid_report p braid ≡ Ok report → IsReportOf (bracket p (closed braid)) report
 
+-- the lines of a script follow from one another as its steps say: without framings each is its step's factor times the one before, modulo
+-- m, and with framings a blow-up repeats the one before
+abbrev pub AreScriptLines : Parameters → Option (List ℤ) → ScriptParts → List ℕ → Type 0
+AreScriptLines p None script residues = AreBracketLines p script.diagram script.steps residues
+AreScriptLines p (Some framings) script residues = AreSurgeryLines p (record { items = script.diagram; framings = framings }) script.steps residues
+
+pub record IsScriptReport (p : Parameters) (framings : Option (List ℤ)) (script : ScriptParts) (report : List ℕ) : Type 0 where
+  pub residues : List ℕ
+  pub told : report ≡ lines residues
+  pub follow : AreScriptLines p framings script residues
+
+-- a report that bytes come to as a script is one of such lines, of the script that they spell
+abbrev pub ReportsAreOfScripts : Type 0
+ReportsAreOfScripts =
+    (p : Parameters) (framings : Option (List ℤ)) (bytes report : List ℕ) → IsMovesOutcome p framings bytes (Ok report)
+    → (script : ScriptParts) × IsScriptTextOutcome bytes (Ok script) × IsScriptReport p framings script report
+
+-- a report that tetrahedra come to is one of the sum of the weights over all colourings
+abbrev pub ReportsAreOfTetrahedra : Type 0
+ReportsAreOfTetrahedra = (p : Parameters) (items : List TetraItem) (report : List ℕ) → tetra_report p items ≡ Ok report → IsReportOf (weight_sum p items) report
+
 -- the task in the listed order and without turns, by one worker
 abbrev pub plain_sweep : Sweep
 plain_sweep = record { order = Listed; turns = false }
@@ -83,6 +114,7 @@ plain_task (Torus crossings sweep) = Torus crossings plain_sweep
 plain_task (Wrt framings workers even sweep) = Wrt framings 1 even plain_sweep
 plain_task (Moves framings) = Moves framings
 plain_task Braid = Braid
+plain_task Tetrahedra = Tetrahedra
 
 -- the openings ask for one task at the same parameters, but for the options of the sweep and the workers
 abbrev pub AskAlike : Result Opened Refusal → Result Opened Refusal → Type 0

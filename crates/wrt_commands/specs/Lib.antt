@@ -23,6 +23,8 @@ pub mod NetReports
 pub mod NetOutcomes
 pub mod BraidRefusals
 pub mod BraidOutcomes
+pub mod TetraRefusals
+pub mod TetraOutcomes
 pub mod TorusOutcomes
 pub mod FramingFits
 pub mod SurgeryReports

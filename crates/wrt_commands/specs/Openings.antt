@@ -1,9 +1,10 @@
 -- What words come to before the input is read: parameters and a task, or the first refusal. (This project's own.)
 --
 --     form_of task        the form of the parameters that the task is about
+--     is_past_level task r      R is past the task's own limit: for sums over tetrahedra this is 6
 --     opening words       the parts of the command line, the request in them, its parameters
 --     reads_input opening the input is read: not for a torus link, nor where the words are refused
-use Rattle.std.specs.Prelude.{ℕ, Bool, true, false, List, Option, Some, None, Result, Ok, Err, if◌then◌else◌}
+use Rattle.std.specs.Prelude.{ℕ, Bool, true, false, nat_lt, List, Option, Some, None, Result, Ok, Err, if◌then◌else◌}
 use Rattle.root_quantum.specs.Parameters.{Parameters}
 use Rattle.root_quantum.specs.declared.form.Form.{Form}
 use Rattle.root_quantum.specs.declared.form.Form.TheVariants.{All, Even}
@@ -11,12 +12,13 @@ use Rattle.wrt_parts.specs.Texts.{Texts}
 use Rattle.wrt_words.specs.Words.{parts_of}
 use Rattle.wrt_request.specs.declared.request.Request.{Request}
 use Rattle.wrt_request.specs.declared.request.Task.{Task}
-use Rattle.wrt_request.specs.declared.request.Task.TheVariants.{Bracket, Colored, Net, Torus, Wrt, Moves, Braid}
+use Rattle.wrt_request.specs.declared.request.Task.TheVariants.{Bracket, Colored, Net, Torus, Wrt, Moves, Braid, Tetrahedra}
 use Rattle.wrt_request.specs.declared.fault.PartsRefusal.{PartsRefusal}
 use Rattle.wrt_request.specs.Requests.{request_of}
 use Rattle.wrt_commands.specs.declared.opening.Opened.{Opened}
 use Rattle.wrt_commands.specs.declared.refusal.Refusal.{Refusal}
 use Rattle.wrt_commands.specs.declared.refusal.Refusal.TheVariants.{Words, Parameters as ParametersRefused}
+use Rattle.wrt_commands.specs.declared.parameters_refusal.ParametersRefusal.TheVariants.{TetraLevel}
 use Rattle.wrt_commands.specs.declared.words_refusal.WordsRefusal.TheVariants.{NoCommandLine, Parts}
 use Rattle.wrt_commands.specs.Parameters.{parameters_of}
 use Rattle.wrt_request.specs.Stages.{after}
@@ -40,10 +42,22 @@ form_of (Torus crossings sweep) = All
 form_of (Wrt framings workers even sweep) = if even then Even else All
 form_of (Moves framings) = All
 form_of Braid = All
+form_of Tetrahedra = All
+
+-- R is past the task's own limit.
+abbrev pub is_past_level : Task → ℕ → Bool
+is_past_level (Bracket sweep) level = false
+is_past_level (Colored colours sweep) level = false
+is_past_level (Net colours sweep) level = false
+is_past_level (Torus crossings sweep) level = false
+is_past_level (Wrt framings workers even sweep) level = false
+is_past_level (Moves framings) level = false
+is_past_level Braid level = false
+is_past_level Tetrahedra level = nat_lt 6 level
 
 -- The task of a request at its parameters.
 abbrev pub opened : Task → Parameters → Result Opened Refusal
-opened task p = Ok (record { params = p; task = task })
+opened task p = if is_past_level task p.level then Err (ParametersRefused TetraLevel) else Ok (record { params = p; task = task })
 
 -- What a request comes to.
 abbrev pub with_request : Request → Result Opened Refusal
@@ -66,6 +80,7 @@ is_about_input (Torus crossings sweep) = false
 is_about_input (Wrt framings workers even sweep) = true
 is_about_input (Moves framings) = true
 is_about_input Braid = true
+is_about_input Tetrahedra = true
 
 -- The input is read.
 abbrev pub reads_input : Result Opened Refusal → Bool

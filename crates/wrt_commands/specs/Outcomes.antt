@@ -1,5 +1,5 @@
 -- What a run comes to, by its words and the bytes of its input, in the one order of refusals: the words, the parameters, the
--- length, the text with its items and labels, the faces, the colours or the framings, the list of the order, the refusals of the value. The first refusal stands; without one the report does. (This project's own; made of the definitions of the layers below.)
+-- length, the text with its items and labels, the faces, the colours or the framings, the list of the order, the refusals of the value or of the sum. The first refusal stands; without one the report does. (This project's own; made of the definitions of the layers below.)
 --
 --     Outcome                            a report, or a refusal
 --     IsTaskOutcome p task bytes outcome      what a task comes to at the parameters p, command by command
@@ -11,13 +11,14 @@
 use Rattle.std.specs.Prelude.{ℕ, List, Result, Ok, Err}
 use Rattle.root_quantum.specs.Parameters.{Parameters}
 use Rattle.wrt_request.specs.declared.request.Task.{Task}
-use Rattle.wrt_request.specs.declared.request.Task.TheVariants.{Bracket, Colored, Net, Torus, Wrt, Moves, Braid}
+use Rattle.wrt_request.specs.declared.request.Task.TheVariants.{Bracket, Colored, Net, Torus, Wrt, Moves, Braid, Tetrahedra}
 use Rattle.wrt_commands.specs.declared.opening.Opened.{Opened}
 use Rattle.wrt_commands.specs.declared.refusal.Refusal.{Refusal}
 use Rattle.wrt_commands.specs.BracketOutcomes.{IsBracketOutcome}
 use Rattle.wrt_commands.specs.BraidOutcomes.{IsBraidOutcome}
 use Rattle.wrt_commands.specs.ColoredOutcomes.{IsColoredOutcome}
 use Rattle.wrt_commands.specs.NetOutcomes.{IsNetOutcome}
+use Rattle.wrt_commands.specs.TetraOutcomes.{IsTetraOutcome}
 use Rattle.wrt_commands.specs.TorusOutcomes.{torus_outcome}
 use Rattle.wrt_commands.specs.MovesOutcomes.{IsMovesOutcome}
 use Rattle.wrt_commands.specs.WrtOutcomes.{IsWrtOutcome}
@@ -37,6 +38,7 @@ IsTaskOutcome p (Torus crossings sweep) bytes outcome = Is (torus_outcome p cros
 IsTaskOutcome p (Wrt framings workers even sweep) bytes outcome = IsWrtOutcome p framings sweep bytes outcome
 IsTaskOutcome p (Moves framings) bytes outcome = IsMovesOutcome p framings bytes outcome
 IsTaskOutcome p Braid bytes outcome = IsBraidOutcome p bytes outcome
+IsTaskOutcome p Tetrahedra bytes outcome = IsTetraOutcome p bytes outcome
 
 -- What bytes come to, where the words come to an opening.
 abbrev pub IsOutcomeAt : Result Opened Refusal → List ℕ → Outcome → Type 0

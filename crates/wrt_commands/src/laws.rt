@@ -1,6 +1,6 @@
 //! Laws over the definitions alone: the facts that these functions ensure, which do nothing.
 
-ghost use Rattle.wrt_commands.specs.Laws.{OutcomesAreUnique, OutcomesExist, ReportsAreOfBrackets, ReportsAreOfColouredValues, ReportsAreOfNetValues, ReportsAreOfSurgeryValues, ReportsAreOfBraidTraces, SameResidues};
+ghost use Rattle.wrt_commands.specs.Laws.{OutcomesAreUnique, OutcomesExist, ReportsAreOfBrackets, ReportsAreOfColouredValues, ReportsAreOfNetValues, ReportsAreOfSurgeryValues, ReportsAreOfBraidTraces, ReportsAreOfScripts, ReportsAreOfTetrahedra, SameResidues};
 
 /// The words and the bytes of the input come to at most one outcome: so what `run` says of an outcome says what the
 /// program prints.
@@ -44,4 +44,16 @@ pub fn same_residues()
 /// The residue of a report of a braid is the bracket of its closure.
 pub fn reports_are_of_braid_traces()
     ensures { ReportsAreOfBraidTraces }
+{}
+
+/// A report of a script has a line for each of its diagrams. Without framings a line is the bracket, and each but the first is the
+/// step's factor times the one before it, modulo m; with framings a line is the surgery value, and each blow-up repeats the line
+/// before it.
+pub fn reports_are_of_scripts()
+    ensures { ReportsAreOfScripts }
+{}
+
+/// The residue of a report of tetrahedra is the sum of the weights over all colourings of their labels.
+pub fn reports_are_of_tetrahedra()
+    ensures { ReportsAreOfTetrahedra }
 {}

@@ -5,12 +5,8 @@ mod arguments_refusal;
 mod bracket;
 mod braid;
 mod braid_refusal;
-#[cfg(test)]
-mod braid_tests;
 mod colored;
 mod colour_fits;
-#[cfg(test)]
-mod colour_tests;
 mod coloured_report;
 mod diagram_report;
 mod framing_fits;
@@ -19,8 +15,6 @@ mod item_order;
 mod laws;
 mod moves;
 mod moves_report;
-#[cfg(test)]
-mod moves_tests;
 mod net;
 mod net_report;
 mod opening;
@@ -32,10 +26,8 @@ mod script_refusal;
 mod status;
 mod stop;
 mod surgery_report;
-#[cfg(test)]
-mod surgery_tests;
-#[cfg(test)]
-mod tests;
+mod tetra_refusal;
+mod tetrahedra;
 mod text_refusal;
 mod too_long;
 mod top;
@@ -48,8 +40,8 @@ pub use arguments_refusal::ArgumentsRefusal;
 pub use braid_refusal::BraidRefusal;
 pub use laws::{
     outcomes_are_unique, outcomes_exist, reports_are_of_brackets, reports_are_of_braid_traces,
-    reports_are_of_coloured_values, reports_are_of_net_values, reports_are_of_surgery_values,
-    same_residues,
+    reports_are_of_coloured_values, reports_are_of_net_values, reports_are_of_scripts,
+    reports_are_of_surgery_values, reports_are_of_tetrahedra, same_residues,
 };
 pub use parameters::read_parameters;
 pub use parameters_refusal::ParametersRefusal;
@@ -57,6 +49,7 @@ pub use plane_refusal::PlaneRefusal;
 pub use refusal::Refusal;
 pub use status::Status;
 pub use stop::Stop;
+pub use tetra_refusal::TetraRefusal;
 pub use text_refusal::{Counted, TextRefusal};
 pub use too_long::TooLong;
 pub use top::run;

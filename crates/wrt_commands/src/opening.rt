@@ -4,13 +4,14 @@ ghost use Rattle.std.specs.Prelude.{◌≡◌, ◌≢◌, true, Err, IfOk, map};
 ghost use Rattle.wrt_parts.specs.Texts.{texts_of};
 ghost use Rattle.wrt_request.specs.Requests.{IsInRange};
 ghost use Rattle.wrt_words.specs.Words.{command_line, takes_line};
-ghost use Rattle.wrt_commands.specs.Openings.{form_of, opening, with_request, with_texts};
+ghost use Rattle.wrt_commands.specs.Openings.{form_of, is_past_level, opening, with_request, with_texts};
 ghost use Rattle.wrt_commands.specs.Stops.{Answers, Is};
 ghost use Rattle.wrt_commands.specs.declared.refusal.Refusal.TheVariants as refusals;
 ghost use Rattle.wrt_commands.specs.declared.stop.Stop.TheVariants as stops;
 ghost use Rattle.wrt_commands.specs.declared.words_refusal.WordsRefusal.TheVariants as words_refusals;
 
 use crate::parameters::read_parameters;
+use crate::parameters_refusal::ParametersRefusal;
 use crate::refusal::Refusal;
 use crate::stop::Stop;
 use crate::words_refusal::WordsRefusal;
@@ -39,7 +40,24 @@ fn form_of(task: &Task) -> Form
         | Task::Torus { .. }
         | Task::Wrt { even: false, .. }
         | Task::Moves { .. }
-        | Task::Braid => Form::All,
+        | Task::Braid
+        | Task::Tetrahedra => Form::All,
+    }
+}
+
+/// Whether R is past the task's own limit: 6 for a sum over tetrahedra.
+fn is_past_level(task: &Task, level: u32) -> bool
+    ensures { result ≡ is_past_level task.now level }
+{
+    match task {
+        Task::Tetrahedra => level > 6,
+        Task::Bracket { .. }
+        | Task::Colored { .. }
+        | Task::Net { .. }
+        | Task::Torus { .. }
+        | Task::Wrt { .. }
+        | Task::Moves { .. }
+        | Task::Braid => false,
     }
 }
 
@@ -50,10 +68,14 @@ fn open_request(request: Request) -> Result<Opened, Refusal>
     ensures in_range { IfOk result (λ opened. IsInRange opened.task) }
 {
     let Request { task, numbers } = request;
-    match read_parameters(&numbers, form_of(&task)) {
-        Ok(params) => Ok(Opened { params, task }),
-        Err(refusal) => Err(Refusal::Parameters(refusal)),
+    let params = match read_parameters(&numbers, form_of(&task)) {
+        Ok(params) => params,
+        Err(refusal) => return Err(Refusal::Parameters(refusal)),
+    };
+    if is_past_level(&task, params.level()) {
+        return Err(Refusal::Parameters(ParametersRefusal::TetraLevel));
     }
+    Ok(Opened { params, task })
 }
 
 /// What the parts ask for, at its parameters.

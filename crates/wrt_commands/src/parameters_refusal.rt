@@ -15,6 +15,8 @@ pub enum ParametersRefusal {
     Root,
     /// R is out of range.
     Level,
+    /// R is above 6, for a sum over tetrahedra.
+    TetraLevel,
     /// R is even, in the even form.
     EvenLevel,
     /// The least power of A that is 1 is `found`, or there is none up to `wanted`.
@@ -48,6 +50,7 @@ impl fmt::Display for ParametersRefusal {
             ParametersRefusal::Modulus => write!(f, "modulus is out of range"),
             ParametersRefusal::Root => write!(f, "root is out of range"),
             ParametersRefusal::Level => write!(f, "level is not 3 to 10"),
+            ParametersRefusal::TetraLevel => write!(f, "level is not 3 to 6"),
             ParametersRefusal::EvenLevel => write!(f, "level is not odd"),
             ParametersRefusal::Order {
                 found: Some(found),

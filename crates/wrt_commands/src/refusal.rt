@@ -9,6 +9,7 @@ use crate::parameters_refusal::ParametersRefusal;
 use crate::plane_refusal::PlaneRefusal;
 use crate::script_refusal::script_status;
 use crate::status::Status;
+use crate::tetra_refusal::TetraRefusal;
 use crate::text_refusal::TextRefusal;
 use crate::too_long::TooLong;
 use crate::value_refusal::value_status;
@@ -30,6 +31,9 @@ pub enum Refusal {
     Text(TextRefusal),
     /// The text is one of a braid past the limits, or with an entry that is no crossing.
     Braid(BraidRefusal),
+    /// A tetrahedron of the text has a face that is not listed, or the sum over them has too many colourings or a face without an
+    /// inverse.
+    Tetra(TetraRefusal),
     /// The diagram is not planar.
     Plane(PlaneRefusal),
     /// An argument of the words doesn't fit the diagram.
@@ -51,6 +55,7 @@ impl Refusal {
             Refusal::TooLong(refusal) => refusal.status(),
             Refusal::Text(refusal) => refusal.status(),
             Refusal::Braid(refusal) => refusal.status(),
+            Refusal::Tetra(refusal) => refusal.status(),
             Refusal::Plane(refusal) => refusal.status(),
             Refusal::Arguments(refusal) => refusal.status(),
             Refusal::Value(refusal) => value_status(refusal),
@@ -70,6 +75,7 @@ impl fmt::Display for Refusal {
             Refusal::TooLong(refusal) => write!(f, "{refusal}"),
             Refusal::Text(refusal) => write!(f, "{refusal}"),
             Refusal::Braid(refusal) => write!(f, "{refusal}"),
+            Refusal::Tetra(refusal) => write!(f, "{refusal}"),
             Refusal::Plane(refusal) => write!(f, "{refusal}"),
             Refusal::Arguments(refusal) => write!(f, "{refusal}"),
             Refusal::Value(refusal) => write!(f, "{refusal}"),

@@ -22,6 +22,7 @@ use crate::net::coloured_net_report;
 use crate::opening::{Opened, open_words};
 use crate::status::Status;
 use crate::stop::Stop;
+use crate::tetrahedra::tetrahedra_report;
 use crate::torus::torus_report;
 use crate::wrt::wrt_report;
 use colour_share::Gate;
@@ -87,6 +88,10 @@ fn task_report<R: Threads + Sync, S: Source, G: Gate + Sync>(
         Task::Braid => {
             let bytes = read_input(alloc, source)?;
             closed_braid_report(alloc, &opened.params, &bytes)
+        }
+        Task::Tetrahedra => {
+            let bytes = read_input(alloc, source)?;
+            tetrahedra_report(alloc, &opened.params, &bytes)
         }
     }
 }

@@ -6,7 +6,7 @@ use Rattle.wrt_parts.specs.Texts.{Text, Texts}
 use Rattle.wrt_request.specs.declared.order.OrderWord.TheVariants.{Listed, Greedy, Given}
 use Rattle.wrt_request.specs.declared.option_name.OptionName.TheVariants.{Colors, Framing, Workers, Order, Even}
 use Rattle.wrt_request.specs.declared.request.Numbers.{Numbers}
-use Rattle.wrt_request.specs.declared.request.Task.TheVariants.{Bracket, Colored, Torus, Braid, Wrt}
+use Rattle.wrt_request.specs.declared.request.Task.TheVariants.{Bracket, Colored, Torus, Braid, Tetrahedra, Wrt}
 use Rattle.wrt_request.specs.declared.fault.PartsRefusal.TheVariants as refusals
 use Rattle.wrt_request.specs.declared.fault.PartsRefusal.TheVariants.{UnknownCommand, Takes, Number, Crossings}
 use Rattle.wrt_request.proofs.OnLiterals.{request_on_literals}
@@ -315,3 +315,12 @@ too_many_crossings = refl
 a_braid : request_of (bare (codes "braid") (codes "41 2 5")) ≡ Ok (record { task = Braid; numbers = at_41 })
 unfolding request_on_literals
 a_braid = refl
+
+-- tv 41 2 5 for the sum over the tetrahedra on it, and takes no option
+some_tetrahedra : request_of (bare (codes "tv") (codes "41 2 5")) ≡ Ok (record { task = Tetrahedra; numbers = at_41 })
+unfolding request_on_literals
+some_tetrahedra = refl
+
+no_option : request_of (record (bare (codes "tv") (codes "41 2 5")) { order = Some (codes "listed") }) ≡ Err (refusals.Option Order)
+unfolding request_on_literals
+no_option = refl

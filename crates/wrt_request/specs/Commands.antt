@@ -7,14 +7,14 @@
 --     check_options command texts      all options that are given belong to the command, or the refusal of the first that
 --                                      doesn't
 --
--- All take M, A and R, and `torus` N before them; `--order` and `--turns` belong to all but `moves` and `braid`, `--colors` to `colored` and
+-- All take M, A and R, and `torus` N before them; `--order` and `--turns` belong to all but `moves`, `braid` and `tv`, `--colors` to `colored` and
 -- `net`, `--framing` to `wrt` and `moves`, `--workers` and `--even` to `wrt`.
 use Rattle.std.specs.Prelude.{◌&&◌, ℕ, Bool, true, false, not, List, [], ◌∷◌, Option, Some, None, Result, Ok, Err, codes, find}
 use Rattle.std.specs.Str.{bytes_eq}
 use Rattle.wrt_parts.specs.Texts.{Text, Texts}
 use Rattle.wrt_request.specs.Options.{is_given}
 use Rattle.wrt_request.specs.declared.command.Command.{Command}
-use Rattle.wrt_request.specs.declared.command.Command.TheVariants.{Bracket, Colored, Net, Torus, Wrt, Moves, Braid}
+use Rattle.wrt_request.specs.declared.command.Command.TheVariants.{Bracket, Colored, Net, Torus, Wrt, Moves, Braid, Tetrahedra}
 use Rattle.wrt_request.specs.declared.command.Options.{Options}
 use Rattle.wrt_request.specs.declared.option_name.OptionName.{OptionName}
 use Rattle.wrt_request.specs.declared.option_name.OptionName.TheVariants.{Colors, Framing, Workers, Order, Turns, Even}
@@ -56,10 +56,11 @@ row_of Torus = record { name = codes "torus"; own_numbers = 1; options = order_a
 row_of Wrt = record { name = codes "wrt"; own_numbers = 0; options = surgery_options }
 row_of Moves = record { name = codes "moves"; own_numbers = 0; options = framing_alone }
 row_of Braid = record { name = codes "braid"; own_numbers = 0; options = no_options }
+row_of Tetrahedra = record { name = codes "tv"; own_numbers = 0; options = no_options }
 
 -- All commands.
 abbrev pub all_commands : List Command
-all_commands = Bracket ∷ Colored ∷ Net ∷ Torus ∷ Wrt ∷ Moves ∷ Braid ∷ []
+all_commands = Bracket ∷ Colored ∷ Net ∷ Torus ∷ Wrt ∷ Moves ∷ Braid ∷ Tetrahedra ∷ []
 
 -- The command that was found, or the refusal where there is none.
 abbrev pub known_command : Option Command → Result Command PartsRefusal

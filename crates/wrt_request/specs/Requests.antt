@@ -26,7 +26,7 @@ use Rattle.wrt_request.specs.declared.request.Numbers.{Numbers}
 use Rattle.wrt_request.specs.declared.request.Request.{Request}
 use Rattle.wrt_request.specs.declared.request.Sweep.{Sweep}
 use Rattle.wrt_request.specs.declared.request.Task.{Task}
-use Rattle.wrt_request.specs.declared.request.Task.TheVariants.{Bracket, Colored, Net, Torus, Wrt, Moves, Braid}
+use Rattle.wrt_request.specs.declared.request.Task.TheVariants.{Bracket, Colored, Net, Torus, Wrt, Moves, Braid, Tetrahedra}
 use Rattle.wrt_request.specs.declared.fault.PartsRefusal.{PartsRefusal}
 use Rattle.wrt_request.specs.declared.fault.PartsRefusal.TheVariants.{Crossings}
 
@@ -40,6 +40,7 @@ task_of commands.Torus numbers arguments =
 task_of commands.Wrt numbers arguments = Ok (Wrt arguments.framings arguments.workers arguments.even arguments.sweep)
 task_of commands.Moves numbers arguments = Ok (Moves arguments.framings)
 task_of commands.Braid numbers arguments = Ok Braid
+task_of commands.Tetrahedra numbers arguments = Ok Tetrahedra
 
 -- The crossings of the task are 1 to 256, and its workers 1 to 64.
 abbrev pub IsInRange : Task → Type 0
@@ -50,6 +51,7 @@ IsInRange (Torus crossings sweep) = (1 ≤ crossings) × (crossings ≤ 256)
 IsInRange (Wrt framings workers even sweep) = (1 ≤ workers) × (workers ≤ 64)
 IsInRange (Moves framings) = Unit {0}
 IsInRange Braid = Unit {0}
+IsInRange Tetrahedra = Unit {0}
 
 -- M, A and R, behind so many numbers of the command's own.
 abbrev pub shared_numbers : ℕ → List ℕ → Numbers

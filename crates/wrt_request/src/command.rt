@@ -25,6 +25,8 @@ pub(crate) enum Command {
     Moves,
     /// `braid M A R`
     Braid,
+    /// `tv M A R`
+    Tetrahedra,
 }
 
 /// For each option, whether it belongs to a command.
@@ -88,7 +90,7 @@ const FRAMING: Options = Options {
 
 impl Command {
     /// All commands.
-    const ALL: [Command; 7] = [
+    const ALL: [Command; 8] = [
         Command::Bracket,
         Command::Colored,
         Command::Net,
@@ -96,6 +98,7 @@ impl Command {
         Command::Wrt,
         Command::Moves,
         Command::Braid,
+        Command::Tetrahedra,
     ];
 
     /// The command's row of the table.
@@ -137,6 +140,11 @@ impl Command {
             },
             Command::Braid => Row {
                 name: "braid",
+                own_numbers: 0,
+                options: NO_OPTIONS,
+            },
+            Command::Tetrahedra => Row {
+                name: "tv",
                 own_numbers: 0,
                 options: NO_OPTIONS,
             },

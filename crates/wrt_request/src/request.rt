@@ -91,6 +91,8 @@ pub enum Task {
     },
     /// `braid M A R`: the bracket of the closure of the braid on the input.
     Braid,
+    /// `tv M A R`: the sum over the coloured tetrahedra on the input.
+    Tetrahedra,
 }
 
 /// What the words ask for.
@@ -164,6 +166,7 @@ fn read_task(command: Command, numbers: &[u64], arguments: Arguments) -> Result<
         }),
         Command::Moves => Ok(Task::Moves { framings }),
         Command::Braid => Ok(Task::Braid),
+        Command::Tetrahedra => Ok(Task::Tetrahedra),
     }
 }
 

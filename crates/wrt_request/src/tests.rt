@@ -102,7 +102,7 @@ fn asked(task: &Task) -> Option<(Option<u32>, &Sweep)> {
         | Task::Net { sweep, .. }
         | Task::Wrt { sweep, .. } => Some((None, sweep)),
         Task::Torus { crossings, sweep } => Some((Some(*crossings), sweep)),
-        Task::Moves { .. } | Task::Braid => None,
+        Task::Moves { .. } | Task::Braid | Task::Tetrahedra => None,
     }
 }
 

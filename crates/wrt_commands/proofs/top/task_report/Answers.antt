@@ -2,7 +2,7 @@ use Rattle.std.proofs.Common.{refl}
 use Rattle.std.proofs.lemmas.Result.{err_from_is_err_and}
 use Rattle.wrt_request.specs.declared.request.Task.TheVariants.{Torus, Wrt}
 use Rattle.wrt_commands.proofs.RunLemmas.{some_bytes}
-use Rattle.wrt_commands.proofs.TaskLemmas.{bracket_stopped, colored_stopped, moves_stopped, net_stopped, task_answer, wrt_stopped, braid_stopped}
+use Rattle.wrt_commands.proofs.TaskLemmas.{bracket_stopped, colored_stopped, moves_stopped, net_stopped, task_answer, wrt_stopped, braid_stopped, tetrahedra_stopped}
 use Rattle.wrt_commands.proofs.top.task_report.Goals as goal
 
 pub returns-in_err-bytes-in-Bracket-clause-answer : goal.returns-in_err-bytes-in-Bracket-clause-answer
@@ -27,6 +27,12 @@ pub returns-in_err-bytes-in-Braid-clause-answer : goal.returns-in_err-bytes-in-B
 returns-in_err-bytes-in-Braid-clause-answer g c =
     let p = err_from_is_err_and c.from_residual-in_err-bytes-in-Braid.result c.from_residual-in_err-bytes-in-Braid.ensures.1 in
     let h = braid_stopped c.args.opened.now _ _ _ c.in-Braid.is refl c.in_err-bytes-in-Braid.ensures.answer in
+    (h.0, h.1, rw (p.1, p.2) h.2)
+
+pub returns-in_err-bytes-in-Tetrahedra-clause-answer : goal.returns-in_err-bytes-in-Tetrahedra-clause-answer
+returns-in_err-bytes-in-Tetrahedra-clause-answer g c =
+    let p = err_from_is_err_and c.from_residual-in_err-bytes-in-Tetrahedra.result c.from_residual-in_err-bytes-in-Tetrahedra.ensures.1 in
+    let h = tetrahedra_stopped c.args.opened.now _ _ _ c.in-Tetrahedra.is refl c.in_err-bytes-in-Tetrahedra.ensures.answer in
     (h.0, h.1, rw (p.1, p.2) h.2)
 
 pub returns-in-Torus-clause-answer : goal.returns-in-Torus-clause-answer
