@@ -1,0 +1,9 @@
+pub mod Ranks
+pub mod CurlSteps
+pub mod Found
+pub mod Early
+pub mod Crossed
+pub mod FaceLemmas
+pub mod Steps
+pub mod Late
+pub mod Whole

@@ -1,0 +1,13 @@
+pub mod SignSums
+pub mod Directions
+pub mod Joins
+pub mod Marks
+pub mod Bands
+pub mod Slides
+pub mod Curls
+pub mod Starts
+pub mod Counted
+pub mod Sources
+pub mod Frees
+pub mod Simple
+pub mod Sizes
