@@ -1,0 +1,34 @@
+pub mod Below
+pub mod ManyArcs
+pub mod Recut
+pub mod StepPieces
+pub mod BundleBigon
+pub mod BundleTurns
+pub mod CabledGrids
+pub mod CabledBigon
+pub mod CutCloses
+pub mod CutPlaces
+pub mod SameComponents
+pub mod NetAppends
+pub mod CabledStrands
+pub mod PushedCables
+pub mod ColouredMoves
+pub mod ThroughArcs
+pub mod OneBundle
+pub mod CrossingSteps
+pub mod ThreeRuns
+pub mod BundleTriangle
+pub mod TriangleNames
+pub mod ToldCrossings
+pub mod CabledTriangle
+pub mod StubItems
+pub mod ExchangedStubs
+pub mod TurnedBoxes
+pub mod BelowTriangle
+pub mod SlidStubs
+pub mod CablePulls
+pub mod LabelColours
+pub mod SlidCables
+pub mod ColouredSlides
+mod Examples
+mod SlideExamples
