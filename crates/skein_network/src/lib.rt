@@ -25,6 +25,3 @@ pub use colours::check_colours;
 pub use diagram::cable;
 pub use fault::CableFault;
 pub use net::{cable_net, check_net_colours};
-
-#[cfg(test)]
-mod tests;

@@ -15,6 +15,3 @@ pub use fault::{SweepStep, ValueFault, ValueRefusal};
 pub use net::net_value;
 pub use surgery::surgery_value;
 pub use value::Value;
-
-#[cfg(test)]
-mod tests;
