@@ -15,8 +15,9 @@ use Rattle.cables.specs.Strands.{Strands}
 use Rattle.cables.proofs.GridNames.{crossing-times, crossing_inner}
 use Rattle.diagram_moves.specs.Rewriting.{crossing_at, slot}
 use Rattle.diagram_moves.proofs.Rewritten.{anew}
-use Rattle.coloured_moves.proofs.BundleTurns.{runs_exchanged}
+use Rattle.cable_crossings.proofs.BundleTurns.{runs_exchanged}
 use Rattle.coloured_moves.proofs.StubItems.{at_stub, stub_crossing, stub_nodes, pulled, moved_out}
+use Rattle.cable_crossings.proofs.ToldCrossings.{four_summed}
 
 module _ (p : Parameters) (strands : Strands) (loop_group : ℕ) (items : List Item) (c : ℕ) (sc : List ℕ) (found : crossing_at items c ≡ Some sc) (d : ℕ) (sd : List ℕ) (also : crossing_at items d ≡ Some sd)
     (f : ℕ) (sf : List ℕ) (too : crossing_at items f ≡ Some sf) (apart_dc : (d == c) ≡ false) (apart_fc : (f == c) ≡ false) (apart_fd : (f == d) ≡ false) where
@@ -81,17 +82,6 @@ by_corner P (suc (suc (suc (suc (suc zero))))) l a b c d = (d, a, b, c)
 by_corner P (suc (suc (suc (suc (suc (suc zero)))))) l a b c d = (c, d, a, b)
 by_corner P (suc (suc (suc (suc (suc (suc (suc zero))))))) l a b c d = (b, c, d, a)
 by_corner P (suc (suc (suc (suc (suc (suc (suc (suc k)))))))) l a b c d = absurd (omega (arith, l))
-
-four_summed : (F : ℕ → ℕ) (k : ℕ) → k < 8 → F 0 + F 1 + F 2 + F 3 ≡ F (k % 4) + F ((k + 1) % 4) + F ((k + 2) % 4) + F ((k + 3) % 4)
-four_summed F zero l = refl
-four_summed F (suc zero) l = omega arith
-four_summed F (suc (suc zero)) l = omega arith
-four_summed F (suc (suc (suc zero))) l = omega arith
-four_summed F (suc (suc (suc (suc zero)))) l = refl
-four_summed F (suc (suc (suc (suc (suc zero))))) l = omega arith
-four_summed F (suc (suc (suc (suc (suc (suc zero)))))) l = omega arith
-four_summed F (suc (suc (suc (suc (suc (suc (suc zero))))))) l = omega arith
-four_summed F (suc (suc (suc (suc (suc (suc (suc (suc k)))))))) l = absurd (omega (arith, l))
 
 -- HOW OFTEN A NAME STANDS AT A CROSSING, TOLD FROM A CORNER
 pub corner_times : (p : Parameters) (strands : Strands) (g i z : ℕ) (slots : List ℕ) (k : ℕ) → k < 8 → length (at_stub strands (slice_index slots 0)) ≡ length (at_stub strands (slice_index slots 2)) →

@@ -1,6 +1,6 @@
--- The laws of coloured moves.
+-- R2 keeps the coloured value: what an accepted step gives.
 --
--- Others cite: each by the name of its function in src/lib.rt.
+-- Others cite: coloured_push.
 use Rattle.std.proofs.Common.{◌≡◌, ◌≢◌, ℕ, Bool, true, false, not, ◌==◌, ◌||◌, cond, List, Ok, length, sym, ap, ◌∙◌, arith, subst}
 use Rattle.std.specs.Set.{is_member}
 use Rattle.std.proofs.lemmas.Bool.{eq-eqb}
@@ -17,9 +17,7 @@ use Rattle.move_results.proofs.DiagramResults.{diagram_again}
 use Rattle.move_results.proofs.PushedComponents.{pushed_components}
 use Rattle.coloured_values.specs.Coloured.{coloured}
 use Rattle.coloured_moves.proofs.Below.{as_paired}
-use Rattle.coloured_moves.specs.Laws.{ColouredPushLaw, ThroughArcsLaw, CabledBigonLaw}
-use Rattle.coloured_moves.proofs.CabledStrands.{cabled_strands}
-use Rattle.coloured_moves.proofs.ThroughArcs.{through_arcs}
+use Rattle.coloured_moves.specs.Laws.{ColouredPushLaw}
 use Rattle.coloured_moves.proofs.PushedCables.{pushed_coloured}
 
 -- what an accepted R2 gives
@@ -52,9 +50,3 @@ coloured_push p items e f moved colours is room has h =
     let comps = pushed_components items pd e f r.2 r.3 r.4 r.0 r.1 in
     ap (λ is. coloured p is colours) r.5
     ∙ pushed_coloured p items pd e f r.2 r.3 r.4 r.0 r.1 colours room again record { count = has.count ∙ sym (ap length comps); few = has.few }
-
-pub strands_through : ThroughArcsLaw
-strands_through = through_arcs
-
-pub bigon_of_cables : CabledBigonLaw
-bigon_of_cables = cabled_strands

@@ -1,7 +1,7 @@
 -- R3 keeps the coloured value; and where no box lies inside a step, its inner edges have none.
 --
 -- Others cite: coloured_slide, no_anchor, first_anchor_named.
-use Rattle.std.proofs.Common.{◌≡◌, ℕ, zero, suc, ◌+◌, ◌-◌, ◌%◌, ◌<◌, ◌≤◌, ◌==◌, ◌&&◌, ◌||◌, not, nat_le, Bool, true, false, cond, List, [], ◌∷◌, length, slice_index, Option, Some, None, Ok, refl, sym, ap, ap₂, ◌∙◌, arith, ⊎_elim, subst}
+use Rattle.std.proofs.Common.{◌≡◌, ℕ, zero, suc, ◌+◌, ◌-◌, ◌%◌, ◌<◌, ◌≤◌, ◌==◌, ◌&&◌, ◌||◌, not, nat_le, Bool, true, false, cond, List, [], ◌∷◌, length, slice_index, Some, None, Ok, sym, ap, ◌∙◌, arith, ⊎_elim, subst}
 use Rattle.std.specs.List.{AllByRecursion, find}
 use Rattle.std.specs.Set.{is_member}
 use Rattle.std.proofs.lemmas.Bool.{cases_Bool, cases_eq, and_parts, eqb-true, or_cases}
@@ -27,7 +27,7 @@ use Rattle.diagram_moves.proofs.Accepted.{given_Ok, unless_Ok, finished_Ok, fini
 use Rattle.move_results.proofs.PairedResults.{paired_again, triangle_edges}
 use Rattle.piece_laws.proofs.ParameterNumbers.{skein_numbers}
 use Rattle.root_quantum.specs.QuantumNumbers.{loop_value, inverse_root}
-use Rattle.coloured_moves.specs.Anchors.{first_anchor, anchor_inside, inner_edges, labels_of}
+use Rattle.coloured_moves.specs.Anchors.{first_anchor, inner_edges, labels_of}
 use Rattle.coloured_moves.specs.Laws.{ColouredSlideLaw, NoAnchorLaw, FirstAnchorLaw}
 use Rattle.coloured_moves.proofs.Below.{as_paired, each_label}
 use Rattle.coloured_moves.proofs.BelowTriangle.{after_members}

@@ -24,8 +24,9 @@ use Rattle.cables.specs.Strands.{first_names, second_names}
 use Rattle.cables.proofs.RenamedCables.{map-reverse}
 use Rattle.cables.proofs.NameCounts.{at, found_in_map, times-map, times-reverse}
 use Rattle.diagram_moves.proofs.Undone.{contraction_from}
-use Rattle.coloured_moves.proofs.CabledBigon.{zip-times}
-use Rattle.coloured_moves.proofs.StepPieces.{member_of_one}
+use Rattle.cable_crossings.proofs.CabledBigon.{zip-times}
+use Rattle.cable_crossings.proofs.StepPieces.{member_of_one}
+use Rattle.cable_crossings.proofs.ThroughArcs.{zip_contains}
 
 abbrev pub shift : Bool → ℕ
 shift boxed = cond boxed 1 0
@@ -33,13 +34,6 @@ shift boxed = cond boxed 1 0
 shift_le : (b : Bool) → shift b ≤ 1
 shift_le true = omega arith
 shift_le false = omega arith
-
--- ---- lists of pairs
-pub zip_contains : (i : ℕ) (xs ys : List ℕ) → i < length xs → length ys ≡ length xs → Contains (zip xs ys) (slice_index xs i, slice_index ys i)
-zip_contains i [] ys l e = absurd (omega (arith, l))
-zip_contains i (x ∷ xs) [] l e = absurd (omega (arith, e))
-zip_contains zero (x ∷ xs) (y ∷ ys) l e = (0, omega arith, refl)
-zip_contains (suc i) (x ∷ xs) (y ∷ ys) l e = let c = zip_contains i xs ys (omega (arith, l)) (omega (arith, e)) in (suc c.0, omega (arith, c.1), c.2)
 
 zip_all : (f : ℕ → ℕ) (xs ys : List ℕ) → ((i : ℕ) → i < length xs → f (slice_index xs i) ≡ f (slice_index ys i)) → AllByRecursion (λ (pair : ℕ × ℕ). f pair.0 ≡ f pair.1) (zip xs ys)
 zip_all f [] ys h = tt

@@ -2,15 +2,15 @@
 -- exchanged places the cable of the diagram has at each slot the names that the stub there had before.
 --
 -- Others cite: second_first, exchanged_stubs, stubs_once, stubs_halved, crossing_labels-stubbed, halved_stubbed, crossing_stubbed, slot_half.
-use Rattle.std.proofs.Common.{◌≡◌, ◌≢◌, ℕ, zero, suc, ◌+◌, ◌*◌, ◌/◌, ◌%◌, ◌<◌, ◌≤◌, ◌==◌, ◌||◌, Bool, true, false, cond, List, [], ◌∷◌, ◌++◌, map, length, slice_index, Option, Some, refl, sym, ap, ap₂, ◌∙◌, arith, ⊎_elim, subst, append_assoc}
+use Rattle.std.proofs.Common.{◌≡◌, ◌≢◌, ℕ, zero, suc, ◌+◌, ◌*◌, ◌%◌, ◌≤◌, ◌==◌, ◌||◌, Bool, true, false, cond, List, [], ◌∷◌, ◌++◌, map, length, Some, refl, sym, ap, ap₂, ◌∙◌, arith, ⊎_elim, subst, append_assoc}
 use Rattle.std.specs.List.{AllByRecursion}
 use Rattle.std.specs.Set.{is_member}
-use Rattle.std.proofs.lemmas.Bool.{cases_Bool, cases_eq, eqb-true, or_cases}
+use Rattle.std.proofs.lemmas.Bool.{cases_Bool, cases_eq, eqb-true}
 use Rattle.std.proofs.lemmas.Bool.Decides.{nat_tests}
 use Rattle.std.proofs.lemmas.List.{map-append}
 use Rattle.graph_parts.proofs.Distinct.{is_member-append}
 use Rattle.list_lemmas.specs.Times.{times_in}
-use Rattle.list_lemmas.proofs.Times.{times_in-append, times_in-cons, times_of_member}
+use Rattle.list_lemmas.proofs.Times.{times_in-append, times_in-cons}
 use Rattle.state_sums.specs.Networks.{Node}
 use Rattle.root_quantum.specs.Parameters.{Parameters}
 use Rattle.pd_reader.specs.declared.item.Item.{Item}
@@ -20,9 +20,9 @@ use Rattle.cables.specs.CableNodes.{crossing_cable}
 use Rattle.cables.specs.Cables.{loop_nodes}
 use Rattle.cables.specs.Strands.{Strands, exchanged}
 use Rattle.cables.proofs.NameCounts.{at}
-use Rattle.diagram_moves.specs.Rewriting.{crossing_labels, crossing_from, slot}
+use Rattle.diagram_moves.specs.Rewriting.{crossing_labels, crossing_from}
 use Rattle.diagram_moves.proofs.Paired.{loop_labels}
-use Rattle.coloured_moves.proofs.StubItems.{half, stub, stubs, seen_after, stubbed, halved, at_stub, stub_crossing, stub_nodes, stub_half, member_seen}
+use Rattle.coloured_moves.proofs.StubItems.{half, stub, stubs, seen_after, stubbed, halved, at_stub, stub_nodes, stub_half}
 
 -- the first stub of the label is the one of its second place
 abbrev pub second_first : List ℕ → ℕ → Bool

@@ -1,13 +1,11 @@
 -- Items behind others, and their nodes.
 --
--- Others cite: as_net-append, passed_all, cable_nodes-append, loop_count-append, seen_all, no_boxes, nodes_at, anywhere, arcs_of-append, zip-append, All-first, All-second.
-use Rattle.std.proofs.Common.{◌≡◌, ℕ, ◌+◌, ◌==◌, ◌&&◌, ◌||◌, ◌⊎◌, inl, inr, not, Bool, true, false, cond, List, [], ◌∷◌, ◌++◌, map, length, filter, refl, sym, ap, ap₂, ◌∙◌, arith, ⊎_elim, append_assoc, All}
+-- Others cite: as_net-append, passed_all, cable_nodes-append, loop_count-append, seen_all, no_boxes, nodes_at, anywhere, arcs_of-append, zip-append.
+use Rattle.std.proofs.Common.{◌≡◌, ℕ, ◌+◌, ◌==◌, ◌&&◌, ◌||◌, ◌⊎◌, inl, inr, not, Bool, true, false, cond, List, [], ◌∷◌, ◌++◌, map, length, filter, refl, sym, ap, ap₂, ◌∙◌, arith, ⊎_elim, append_assoc}
 use Rattle.std.specs.List.{AllByRecursion, zip, range_with_len}
 use Rattle.std.specs.Set.{is_member}
 use Rattle.std.proofs.lemmas.Bool.{cases_Bool, eqb-true, or_cases}
-use Rattle.std.proofs.lemmas.List.Elements.{All-cons, All-nil, All-head, All-tail}
 use Rattle.state_sums.specs.LocalSums.{arc}
-use Rattle.state_sums.specs.Networks.{Node}
 use Rattle.root_quantum.specs.Parameters.{Parameters}
 use Rattle.pd_reader.specs.declared.item.Item.{Item}
 use Rattle.pd_reader.specs.declared.item.NetItem.{NetItem}
@@ -130,11 +128,3 @@ zip-append [] ys [] vs e = refl
 zip-append [] ys (u ∷ us) vs e = absurd (omega (arith, e))
 zip-append (x ∷ xs) ys [] vs e = absurd (omega (arith, e))
 zip-append (x ∷ xs) ys (u ∷ us) vs e = ap (λ es. (let z : ℕ × ℕ = (x, u) in z) ∷ es) (zip-append xs ys us vs (omega (arith, e)))
-
-pub All-first : (P : Node → Type 0) (xs ys : List Node) → All P (xs ++ ys) → All P xs
-All-first P [] ys h = All-nil P
-All-first P (x ∷ xs) ys h = All-cons P x xs (All-head P x (xs ++ ys) h) (All-first P xs ys (All-tail P x (xs ++ ys) h))
-
-pub All-second : (P : Node → Type 0) (xs ys : List Node) → All P (xs ++ ys) → All P ys
-All-second P [] ys h = h
-All-second P (x ∷ xs) ys h = All-second P xs ys (All-tail P x (xs ++ ys) h)

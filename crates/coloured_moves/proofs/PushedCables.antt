@@ -50,15 +50,15 @@ use Rattle.diagram_moves.proofs.Pushing.{new_four, crossing_label, label, label_
 use Rattle.move_results.proofs.PushedComponents.{total, pushed_components}
 use Rattle.pd_reader.specs.declared.item.Item.TheVariants as item
 use Rattle.coloured_moves.proofs.Below.{all_labels, cut_times, pushed_contracts}
-use Rattle.coloured_moves.proofs.BundleTurns.{runs_exchanged}
-use Rattle.coloured_moves.proofs.CabledBigon.{zip-times, names_of_arcs}
-use Rattle.coloured_moves.proofs.CabledStrands.{cabled_strands, ends_twice}
+use Rattle.cable_crossings.proofs.BundleTurns.{runs_exchanged}
+use Rattle.cable_crossings.proofs.CabledBigon.{zip-times, names_of_arcs}
+use Rattle.cable_crossings.proofs.CabledStrands.{cabled_strands, ends_twice}
 use Rattle.coloured_moves.proofs.CutCloses.{cut_arcs, closed, closed_other, news_become, ends_label, times_closed, first_stays, second_stays, cut_closes}
 use Rattle.coloured_moves.proofs.CutPlaces.{AreTwo, first_before_second, fits, at_places-cut}
 use Rattle.coloured_moves.proofs.Recut.{Fit, recut, recut_loops}
-use Rattle.coloured_moves.proofs.NetAppends.{anywhere, as_net-append, passed_all, cable_nodes-append, loop_count-append, seen_all, nodes_at, named_new, named_old, arcs_of-append, ends_of-append, zip-append, All-first, All-second}
+use Rattle.coloured_moves.proofs.NetAppends.{anywhere, as_net-append, passed_all, cable_nodes-append, loop_count-append, seen_all, nodes_at, named_new, named_old, arcs_of-append, ends_of-append, zip-append}
 use Rattle.coloured_moves.proofs.SameComponents.{contracted_colour, contracted_boxed, lowered_unboxed}
-use Rattle.coloured_moves.proofs.StepPieces.{member_of_one}
+use Rattle.cable_crossings.proofs.StepPieces.{member_of_one, All-first, All-second}
 
 pub unboxed_second : (k l : ℕ) (t : Bool) → t ≡ false → second_names k t l ≡ reverse (first_names k l)
 unboxed_second k l t h =

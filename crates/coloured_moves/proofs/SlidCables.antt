@@ -2,11 +2,11 @@
 -- the names of these, its cable is the old one but for three crossings, and these count as before the move.
 --
 -- Others cite: slid_coloured.
-use Rattle.std.proofs.Common.{◌≡◌, ◌≢◌, ℕ, zero, suc, ◌+◌, ◌-◌, ◌*◌, ◌/◌, ◌%◌, ◌<◌, ◌≤◌, ◌==◌, ◌&&◌, ◌⊎◌, inl, inr, not, Bool, true, false, cond, List, [], ◌∷◌, ◌++◌, map, length, reverse, slice_index, Some, refl, sym, ap, ap₂, ◌∙◌, arith, ⊎_elim, All, subst, append-nil}
+use Rattle.std.proofs.Common.{◌≡◌, ◌≢◌, ℕ, suc, ◌+◌, ◌%◌, ◌<◌, ◌≤◌, ◌==◌, ◌&&◌, ◌⊎◌, inl, inr, not, Bool, true, false, cond, List, [], ◌∷◌, ◌++◌, map, length, reverse, slice_index, Some, refl, sym, ap, ap₂, ◌∙◌, arith, ⊎_elim, All, subst, append-nil}
 use Rattle.std.specs.List.{AllByRecursion}
 use Rattle.std.specs.List.Sorted.{IsPermutation}
 use Rattle.std.specs.Set.{is_member}
-use Rattle.std.proofs.lemmas.Bool.{cases_Bool, eq-eqb, eqb-true}
+use Rattle.std.proofs.lemmas.Bool.{cases_Bool, eqb-true}
 use Rattle.std.proofs.lemmas.Bool.Decides.{nat_tests}
 use Rattle.std.proofs.lemmas.List.{map-append}
 use Rattle.std.proofs.lemmas.List.Elements.{All-append, All-weaker}
@@ -15,7 +15,6 @@ use Rattle.list_lemmas.specs.Times.{times_in}
 use Rattle.list_lemmas.proofs.Bools.{same_bool}
 use Rattle.list_lemmas.proofs.Permuted.{permuted_times}
 use Rattle.list_lemmas.proofs.Times.{member_of_times, times_of_member}
-use Rattle.graph_parts.specs.Walks.{Joined}
 use Rattle.state_sums.specs.Networks.{Node, IsNode, names_of}
 use Rattle.state_sums.specs.StateSums.{value}
 use Rattle.state_sums.proofs.NetworkLaws.{any_order}
@@ -27,8 +26,8 @@ use Rattle.pd_reader.specs.declared.item.Item.{Item}
 use Rattle.pd_reader.specs.declared.item.Item.TheVariants as item
 use Rattle.pd_reader.specs.Items.{item_labels, HasItsSlots}
 use Rattle.pd_reader.specs.Diagrams.{labels, IsDiagram}
-use Rattle.planar_check.specs.Components.{strand_edges, least_labels}
-use Rattle.cables.specs.Cables.{Standing, start, count_placed, cable, cable_nodes, loop_count, Fits, as_net}
+use Rattle.planar_check.specs.Components.{least_labels}
+use Rattle.cables.specs.Cables.{start, count_placed, cable, cable_nodes, loop_count, Fits, as_net}
 use Rattle.cables.specs.Laws.{IsSmallNetwork}
 use Rattle.cables.specs.Nets.{projector_of, HasProjector}
 use Rattle.cables.specs.Strands.{Strands, first_names, second_names}
@@ -53,17 +52,16 @@ use Rattle.move_results.proofs.LeastLabelLists.{Contracts}
 use Rattle.move_results.proofs.TriangleComponents.{triangle_components}
 use Rattle.coloured_moves.proofs.Below.{as_paired, each_label, all_labels}
 use Rattle.coloured_moves.proofs.BelowTriangle.{triangle_contracts, after_members}
-use Rattle.coloured_moves.proofs.CabledBigon.{names_of-ungrouped}
-use Rattle.coloured_moves.proofs.CabledTriangle.{three_times, Bundles, cabled_triangle}
+use Rattle.cable_crossings.proofs.CabledBigon.{names_of-ungrouped}
+use Rattle.cable_crossings.proofs.CabledTriangle.{three_times, Bundles, cabled_triangle}
 use Rattle.coloured_moves.proofs.CablePulls.{at_c, at_d, at_f, first, second, third, others, three_pulled, by_corner, corner_times, three_reversed}
 use Rattle.coloured_moves.proofs.ExchangedStubs.{second_first, turned_strands, exchanged_stubs, first_after}
-use Rattle.coloured_moves.proofs.LabelColours.{same_component, slot_label, opposite_colours, long_stub, opposite_stub, counts, loop_count_labels, counts_same}
-use Rattle.coloured_moves.proofs.NetAppends.{All-first, All-second}
+use Rattle.coloured_moves.proofs.LabelColours.{same_component, opposite_colours, long_stub, opposite_stub, counts, loop_count_labels, counts_same}
 use Rattle.coloured_moves.proofs.PushedCables.{unboxed_second}
 use Rattle.coloured_moves.proofs.SameComponents.{contracted_colour, contracted_boxed}
-use Rattle.coloured_moves.proofs.StepPieces.{member_of_one}
-use Rattle.coloured_moves.proofs.StubItems.{half, stubs, stubbed, halved, at_stub, stub_crossing, stub_nodes, first_boxes, boxes_of, first_labels, split, others_stay, anew_same, ungrouped_boxes, first_labels_times}
-use Rattle.coloured_moves.proofs.ToldCrossings.{IsTold, told_from}
+use Rattle.cable_crossings.proofs.StepPieces.{member_of_one, All-first, All-second}
+use Rattle.coloured_moves.proofs.StubItems.{half, stubbed, halved, at_stub, stub_crossing, stub_nodes, first_boxes, boxes_of, first_labels, split, others_stay, anew_same, ungrouped_boxes, first_labels_times}
+use Rattle.cable_crossings.proofs.ToldCrossings.{IsTold, retold, told_from}
 use Rattle.coloured_moves.proofs.TurnedBoxes.{names_permuted, boxes_ok, turned_boxes, ungrouped_value}
 use Rattle.coloured_moves.proofs.SlidStubs as slid
 
@@ -82,11 +80,6 @@ count_placed-anew : (h : ℕ → List ℕ → List ℕ) (n : ℕ) (items : List 
 count_placed-anew h n [] = refl
 count_placed-anew h n (item.X ws ∷ rest) = ap suc (count_placed-anew h (n + 1) rest)
 count_placed-anew h n (item.Loop l ∷ rest) = count_placed-anew h n rest
-
--- a told crossing whose bundles are written otherwise
-retold : (m delta : ℕ) (nodes : List Node) (x y : ℕ) (a b c d a' b' c' d' : List ℕ) → a ≡ a' → b ≡ b' → c ≡ c' → d ≡ d' → IsTold m delta nodes x y a b c d → IsTold m delta nodes x y a' b' c' d'
-retold m delta nodes x y a b c d a' b' c' d' ea eb ec ed t =
-    subst (λ u. IsTold m delta nodes x y u b' c' d') ea (subst (λ u. IsTold m delta nodes x y a u c' d') eb (subst (λ u. IsTold m delta nodes x y a b u d') ec (subst (λ u. IsTold m delta nodes x y a b c u) ed t)))
 
 module _ (p : Parameters) (items : List Item) (is : IsDiagram items)
     (c : ℕ) (here : List ℕ) (found : crossing_at items c ≡ Some here) (d : ℕ) (there : List ℕ) (also : crossing_at items d ≡ Some there) (f : ℕ) (beyond : List ℕ) (too : crossing_at items f ≡ Some beyond)

@@ -1,5 +1,5 @@
 -- Instances: on two linked components of any colours R3 keeps the coloured value; and boxes that lie inside a step, or do not.
-use Rattle.std.proofs.Common.{◌≡◌, ℕ, ◌≤◌, ◌&&◌, nat_le, true, false, pos, cond, List, [], ◌∷◌, length, Option, Some, None, Ok, refl, sym, ap, ◌∙◌, arith}
+use Rattle.std.proofs.Common.{◌≡◌, ℕ, ◌≤◌, ◌&&◌, nat_le, true, false, pos, cond, List, [], ◌∷◌, length, Some, None, Ok, refl, sym, ap, ◌∙◌, arith}
 use Rattle.std.proofs.lemmas.Bool.Decides.{nat_tests}
 use Rattle.graph_parts.specs.LeastNames.{least_name}
 use Rattle.graph_parts.specs.Parts.{part}
@@ -13,7 +13,7 @@ use Rattle.cables.specs.Nets.{HasProjector}
 use Rattle.coloured_values.specs.Coloured.{coloured}
 use Rattle.diagram_moves.specs.Moves.{move}
 use Rattle.diagram_moves.specs.Steps.{Answer}
-use Rattle.script_reader.specs.declared.step.Step.TheVariants.{R2, R2Undo, R3, CurlUndo}
+use Rattle.script_reader.specs.declared.step.Step.TheVariants.{R2Undo, R3, CurlUndo}
 use Rattle.coloured_moves.specs.Anchors.{anchor_inside, first_anchor, inner_edges}
 use Rattle.coloured_moves.proofs.ColouredSlides.{coloured_slide}
 

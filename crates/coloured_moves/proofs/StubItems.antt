@@ -9,7 +9,7 @@
 --     first_boxes, first_labels, boxes_of      the boxes in the order of a cable, and by their labels
 --
 -- Others cite: split, pulled, moved_out, others_stay, anew_same, some_ungrouped, ungrouped_boxes, first_labels_times.
-use Rattle.std.proofs.Common.{◌≡◌, ℕ, zero, suc, ◌+◌, ◌*◌, ◌/◌, ◌%◌, ◌<◌, ◌≤◌, ◌==◌, ◌&&◌, ◌||◌, not, Bool, true, false, cond, List, [], ◌∷◌, ◌++◌, map, length, slice_index, max, Some, refl, sym, ap, ap₂, ◌∙◌, arith, ⊎_elim, subst, append_assoc}
+use Rattle.std.proofs.Common.{◌≡◌, ℕ, zero, suc, ◌+◌, ◌*◌, ◌/◌, ◌%◌, ◌<◌, ◌≤◌, ◌==◌, ◌&&◌, ◌||◌, not, Bool, true, false, cond, List, [], ◌∷◌, ◌++◌, map, length, slice_index, Some, refl, sym, ap, ap₂, ◌∙◌, arith, ⊎_elim, subst, append_assoc}
 use Rattle.std.specs.List.{AllByRecursion, filter, range_with_len}
 use Rattle.std.specs.List.Sorted.{IsPermutation}
 use Rattle.std.specs.Set.{is_member}
@@ -35,7 +35,6 @@ use Rattle.cables.specs.Cables.{Standing, passed, past_all, box_nodes, loop_node
 use Rattle.diagram_moves.specs.Rewriting.{crossing_labels, crossing_from}
 use Rattle.diagram_moves.proofs.Nodes.{none_some}
 use Rattle.diagram_moves.proofs.Rewritten.{anew}
-use Rattle.move_results.proofs.FaceSteps.{number_from}
 
 -- ---- stubs
 abbrev pub half : ℕ → ℕ

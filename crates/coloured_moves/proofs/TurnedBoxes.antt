@@ -2,7 +2,7 @@
 -- box is turned by half a turn, which a projector does not tell.
 --
 -- Others cite: box_ok, boxes_ok, ungrouped_value, turned_boxes, names_permuted.
-use Rattle.std.proofs.Common.{◌≡◌, ℕ, ◌+◌, ◌<◌, ◌≤◌, ◌==◌, Bool, true, false, cond, List, [], ◌∷◌, ◌++◌, map, length, refl, sym, ap, ap₂, ◌∙◌, arith, ⊎_elim, All, subst, length-append}
+use Rattle.std.proofs.Common.{◌≡◌, ℕ, ◌+◌, ◌<◌, ◌≤◌, ◌==◌, Bool, true, false, cond, List, [], ◌∷◌, ◌++◌, map, length, refl, sym, ap, ◌∙◌, arith, ⊎_elim, All, subst, length-append}
 use Rattle.std.specs.List.{AllByRecursion}
 use Rattle.std.specs.List.Sorted.{IsPermutation}
 use Rattle.std.specs.Set.{is_member}
@@ -25,7 +25,7 @@ use Rattle.cables.specs.CableNodes.{box_node}
 use Rattle.cables.specs.Cables.{Standing, AreBoxes}
 use Rattle.cables.specs.Strands.{Strands, exchanged}
 use Rattle.cables.proofs.NameCounts.{at}
-use Rattle.coloured_moves.proofs.BundleTurns.{value_of_same, runs_exchanged}
+use Rattle.cable_crossings.proofs.BundleTurns.{value_of_same, runs_exchanged}
 use Rattle.coloured_moves.proofs.StubItems.{first_boxes, boxes_of, first_labels, ungrouped_boxes, some_ungrouped}
 
 -- ---- names in another order of the nodes

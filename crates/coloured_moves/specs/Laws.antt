@@ -1,14 +1,7 @@
 -- The laws of coloured moves.
-use Rattle.std.specs.Prelude.{◌≡◌, ℕ, ◌+◌, ◌-◌, ◌<◌, ◌≤◌, ◌==◌, true, false, List, ◌∷◌, ◌++◌, length, reverse, slice_index, Some, None, Ok}
-use Rattle.std.specs.List.{All, AllByRecursion, zip}
+use Rattle.std.specs.Prelude.{◌==◌, ◌≡◌, ℕ, ◌+◌, ◌-◌, ◌<◌, ◌≤◌, true, false, List, length, slice_index, Some, None, Ok}
+use Rattle.std.specs.List.{AllByRecursion}
 use Rattle.std.specs.Set.{is_member}
-use Rattle.state_sums.specs.LocalSums.{AreSkeinNumbers}
-use Rattle.state_sums.specs.Networks.{Node, IsNode, names_of}
-use Rattle.list_lemmas.specs.Times.{times_in}
-use Rattle.state_sums.specs.StateSums.{value}
-use Rattle.root_quantum.specs.QuantumNumbers.{inverse_root}
-use Rattle.piece_laws.specs.Arcs.{arcs_of}
-use Rattle.cables.specs.CableNodes.{crossing_cable, through_node}
 use Rattle.root_quantum.specs.Parameters.{Parameters}
 use Rattle.pd_reader.specs.declared.item.Item.{Item}
 use Rattle.pd_reader.specs.Diagrams.{labels, IsDiagram}
@@ -51,22 +44,3 @@ pub record IsFirstAnchor (items : List Item) (colours : List ℕ) (step : Step) 
 
 abbrev pub FirstAnchorLaw : Type 0
 FirstAnchorLaw = (items : List Item) (colours : List ℕ) (step : Step) (number : ℕ) → anchor_inside items colours step ≡ Some number → IsFirstAnchor items colours step number
-
--- Strands that go straight through are arcs: the i-th end of one side with the i-th last of the other.
-abbrev pub ThroughArcsLaw : Type 0
-ThroughArcsLaw =
-    (group n : ℕ) (xs ys : List ℕ) → length xs ≡ n → length ys ≡ n → (m delta free : ℕ) (rest : List Node) → All IsNode (through_node group xs ys ∷ rest) →
-    value m delta record { nodes = through_node group xs ys ∷ rest; free_loops = free } ≡ value m delta record { nodes = arcs_of (zip xs (reverse ys)) ++ rest; free_loops = free }
-
--- Two cabled crossings that are a bigon count as the strands of both edges, at any names: the edge below has the names A, M and C,
--- the edge above B, N and D; each bundle may be empty.
-abbrev pub CabledBigonLaw : Type 0
-CabledBigonLaw =
-    (p : Parameters) (delta free : ℕ) → AreSkeinNumbers p.modulus p.root (inverse_root p) delta → (g g' k k' u o : ℕ) → u ≤ 8 → o ≤ 8 →
-    (M N A B C D : List ℕ) → length M ≡ u → length A ≡ u → length C ≡ u → length N ≡ o → length B ≡ o → length D ≡ o → (rest : List Node) →
-    All IsNode (crossing_cable p g k M D C N ++ (crossing_cable p g' k' A B (reverse M) (reverse N) ++ rest)) → All IsNode rest →
-    ((z : ℕ) → times_in C z ≤ 1) → ((z : ℕ) → times_in D z ≤ 1) →
-    ((z : ℕ) → 1 ≤ times_in (names_of (crossing_cable p g k M D C N ++ (crossing_cable p g' k' A B (reverse M) (reverse N) ++ rest))) z →
-    times_in (names_of (crossing_cable p g k M D C N ++ (crossing_cable p g' k' A B (reverse M) (reverse N) ++ rest))) z ≡ 2) →
-    value p.modulus delta record { nodes = crossing_cable p g k M D C N ++ (crossing_cable p g' k' A B (reverse M) (reverse N) ++ rest); free_loops = free }
-    ≡ value p.modulus delta record { nodes = arcs_of (zip (A ++ B) (reverse C ++ reverse D)) ++ rest; free_loops = free }

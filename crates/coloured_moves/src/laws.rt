@@ -1,6 +1,6 @@
 //! The laws of coloured moves: each function has an empty body, and its contract is the law. They are stated in `specs/Laws.antt`.
 
-ghost use Rattle.coloured_moves.specs.Laws.{ColouredPushLaw, ColouredSlideLaw, NoAnchorLaw, FirstAnchorLaw, ThroughArcsLaw, CabledBigonLaw};
+ghost use Rattle.coloured_moves.specs.Laws.{ColouredPushLaw, ColouredSlideLaw, NoAnchorLaw, FirstAnchorLaw};
 
 /// `R2` keeps the coloured value, for all parameters and colours.
 pub fn coloured_push()
@@ -20,14 +20,4 @@ pub fn no_anchor()
 /// The component that is named has its box inside the step, and none before it has.
 pub fn first_anchor_named()
     ensures { FirstAnchorLaw }
-{}
-
-/// Strands that go straight through a crossing with a colour 0 are arcs.
-pub fn strands_through()
-    ensures { ThroughArcsLaw }
-{}
-
-/// Two cabled crossings that are a bigon count as the strands of both edges.
-pub fn bigon_of_cables()
-    ensures { CabledBigonLaw }
 {}

@@ -5,6 +5,4 @@
 
 mod laws;
 
-pub use laws::{
-    bigon_of_cables, coloured_push, coloured_slide, first_anchor_named, no_anchor, strands_through,
-};
+pub use laws::{coloured_push, coloured_slide, first_anchor_named, no_anchor};

@@ -1,11 +1,12 @@
 -- A run of steps on n strands as a piece: how often its names stand. So steps that spell one word count alike at any names that
 -- stand twice.
 --
--- Others cite: tops_times, AllTop, IsRun, run_from, runs_anywhere.
+-- Others cite: All-first, All-second, tops_times, AllTop, IsRun, run_from, runs_anywhere.
 use Rattle.std.proofs.Common.{◌≡◌, ◌≢◌, ℕ, zero, suc, ◌+◌, ◌*◌, ◌<◌, ◌≤◌, ◌==◌, ◌||◌, ◌⊎◌, inl, inr, Bool, true, false, cond, List, [], ◌∷◌, ◌++◌, map, refl, sym, ap, ap₂, ◌∙◌, arith, ⊎_elim, All, subst, get_or}
 use Rattle.std.specs.Set.{is_member}
 use Rattle.std.proofs.lemmas.Bool.{cases_Bool, eqb-true, eq-eqb, or_cases, cases_eq}
 use Rattle.std.proofs.lemmas.Bool.Decides.{nat_tests}
+use Rattle.std.proofs.lemmas.List.Elements.{All-cons, All-nil, All-head, All-tail}
 use Rattle.graph_parts.proofs.Ends.{is_member-itself}
 use Rattle.state_sums.specs.LocalSums.{rename}
 use Rattle.state_sums.specs.Networks.{Node, IsNode, names_of}
@@ -25,6 +26,15 @@ use Rattle.word_networks.proofs.Fresh.{AreSteps-from}
 use Rattle.word_networks.proofs.NetworkLaws.{same_words}
 use Rattle.word_networks.proofs.StepNetworks.{are_nodes}
 use Rattle.word_networks.proofs.Strands.{standing_named, member_strands, strands_member, strand_top, strand_bottom, halves}
+
+-- ---- nodes of both runs
+pub All-first : (P : Node → Type 0) (xs ys : List Node) → All P (xs ++ ys) → All P xs
+All-first P [] ys h = All-nil P
+All-first P (x ∷ xs) ys h = All-cons P x xs (All-head P x (xs ++ ys) h) (All-first P xs ys (All-tail P x (xs ++ ys) h))
+
+pub All-second : (P : Node → Type 0) (xs ys : List Node) → All P (xs ++ ys) → All P ys
+All-second P [] ys h = h
+All-second P (x ∷ xs) ys h = All-second P xs ys (All-tail P x (xs ++ ys) h)
 
 at-le : (x y : ℕ) → at x y ≤ 1
 at-le x y = elim (x == y) as (λ b. cond b 1 0 ≤ 1) [ true ↦ omega arith | false ↦ omega arith ]

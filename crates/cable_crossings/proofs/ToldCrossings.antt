@@ -1,15 +1,14 @@
 -- A cabled crossing told from any of its slots: a quarter turn makes the second slot the first and exchanges the weights. Each is a
 -- crossing of bundles, at names that its four bundles of ends bound.
 --
--- Others cite: IsTold, turned, told_from.
-use Rattle.std.proofs.Common.{◌≡◌, ℕ, zero, suc, ◌+◌, ◌-◌, ◌*◌, ◌^◌, ◌%◌, ◌<◌, ◌≤◌, ◌==◌, true, cond, List, [], ◌∷◌, ◌++◌, map, length, reverse, slice_index, refl, sym, ap, ap₂, ◌∙◌, arith, All, subst}
+-- Others cite: IsTold, retold, turned, four_summed, told_from.
+use Rattle.std.proofs.Common.{◌≡◌, ℕ, zero, suc, ◌+◌, ◌-◌, ◌*◌, ◌^◌, ◌%◌, ◌<◌, ◌==◌, cond, List, [], ◌∷◌, ◌++◌, map, length, reverse, slice_index, refl, sym, ap, ap₂, ◌∙◌, arith, All, subst}
 use Rattle.std.specs.List.{range_with_len, zip}
 use Rattle.std.specs.Set.{is_member}
-use Rattle.std.proofs.lemmas.List.{ext_get_or, get_or-map, get_or-reverse, length-map, length-reverse, reverse-reverse}
+use Rattle.std.proofs.lemmas.List.{ext_get_or, get_or-reverse, length-reverse, reverse-reverse}
 use Rattle.std.proofs.lemmas.List.Elements.{All-append, All-cons, All-head, All-nil}
 use Rattle.std.proofs.lemmas.List.FromFn.{length-map-range_with_len, get_or-map-range_with_len}
 use Rattle.std.proofs.lemmas.List.Sums.{AllPass-from_list_all}
-use Rattle.graph_parts.specs.Ends.{ends_of}
 use Rattle.state_sums.specs.Networks.{Node, IsNode, names_of}
 use Rattle.state_sums.specs.StateSums.{value}
 use Rattle.list_lemmas.specs.Times.{times_in}
@@ -23,11 +22,11 @@ use Rattle.cables.specs.CableNodes.{crossing_cable, through_node}
 use Rattle.cables.proofs.NameCounts.{times-reverse}
 use Rattle.word_networks.specs.GridNetworks.{grid_nodes, IsTurned}
 use Rattle.word_networks.proofs.NetworkLaws.{turned_grids}
-use Rattle.coloured_moves.proofs.BundleTurns.{value_of_same, turned_times}
-use Rattle.coloured_moves.proofs.CabledBigon.{edge_v, edge_h, cabled_as_grid, at_last, names_of_arcs, names_of-ungrouped, ungrouped_twice, zip-times}
-use Rattle.coloured_moves.proofs.CabledGrids.{ungrouped-append}
-use Rattle.coloured_moves.proofs.CrossingSteps.{long, between, crossing_nodes, crossing_ok}
-use Rattle.coloured_moves.proofs.ThroughArcs.{through_arcs, turned_arcs}
+use Rattle.cable_crossings.proofs.BundleTurns.{value_of_same, turned_times}
+use Rattle.cable_crossings.proofs.CabledBigon.{edge_v, edge_h, cabled_as_grid, at_last, names_of_arcs, names_of-ungrouped, ungrouped_twice, zip-times}
+use Rattle.cable_crossings.proofs.CabledGrids.{ungrouped-append}
+use Rattle.cable_crossings.proofs.CrossingSteps.{long, between, crossing_nodes, crossing_ok}
+use Rattle.cable_crossings.proofs.ThroughArcs.{through_arcs, turned_arcs}
 
 -- ---- pairs that are listed from the other end, and turned
 ranged : (f : ℕ → ℕ) (n k : ℕ) → k < n → slice_index (map f (range_with_len 0 n)) k ≡ f k
@@ -87,6 +86,11 @@ pub record IsTold (m delta : ℕ) (nodes : List Node) (x y : ℕ) (a b c d : Lis
   pub same : (free : ℕ) (rest : List Node) → All IsNode rest →
       value m delta record { nodes = nodes ++ rest; free_loops = free } ≡ value m delta record { nodes = crossing_nodes x y v h (length b) (length a) ++ rest; free_loops = free }
   pub times : (z : ℕ) → times_in (names_of nodes) z ≡ times_in (names_of (crossing_nodes x y v h (length b) (length a))) z
+
+-- a told crossing whose bundles are written otherwise
+pub retold : (m delta : ℕ) (nodes : List Node) (x y : ℕ) (a b c d a' b' c' d' : List ℕ) → a ≡ a' → b ≡ b' → c ≡ c' → d ≡ d' → IsTold m delta nodes x y a b c d → IsTold m delta nodes x y a' b' c' d'
+retold m delta nodes x y a b c d a' b' c' d' ea eb ec ed t =
+    subst (λ u. IsTold m delta nodes x y u b' c' d') ea (subst (λ u. IsTold m delta nodes x y a u c' d') eb (subst (λ u. IsTold m delta nodes x y a b u d') ec (subst (λ u. IsTold m delta nodes x y a b c u) ed t)))
 
 -- ---- the quarter turn of a crossing of bundles
 abbrev turn_v : ℕ → (ℕ → ℕ → ℕ) → ℕ → ℕ → ℕ
@@ -278,6 +282,18 @@ module _ (p : Parameters) (delta : ℕ) (group k : ℕ) where
             (groups delta free (nodes ++ rest) (grid ++ rest) same).values p.modulus;
         times = λ z. ap (λ ns. times_in ns z) (sym (names_of-ungrouped nodes) ∙ ap names_of is);
       }
+
+-- ---- four slots, from one of them on
+pub four_summed : (F : ℕ → ℕ) (k : ℕ) → k < 8 → F 0 + F 1 + F 2 + F 3 ≡ F (k % 4) + F ((k + 1) % 4) + F ((k + 2) % 4) + F ((k + 3) % 4)
+four_summed F zero l = refl
+four_summed F (suc zero) l = omega arith
+four_summed F (suc (suc zero)) l = omega arith
+four_summed F (suc (suc (suc zero))) l = omega arith
+four_summed F (suc (suc (suc (suc zero)))) l = refl
+four_summed F (suc (suc (suc (suc (suc zero))))) l = omega arith
+four_summed F (suc (suc (suc (suc (suc (suc zero)))))) l = omega arith
+four_summed F (suc (suc (suc (suc (suc (suc (suc zero))))))) l = omega arith
+four_summed F (suc (suc (suc (suc (suc (suc (suc (suc k)))))))) l = absurd (omega (arith, l))
 
 -- ---- from each slot
 module _ (p : Parameters) (delta group k : ℕ) (at : ℕ → List ℕ) (l0 : length (at 0) ≡ length (at 2)) (l1 : length (at 1) ≡ length (at 3)) (ok : All IsNode (crossing_cable p group k (at 0) (at 1) (at 2) (at 3))) where

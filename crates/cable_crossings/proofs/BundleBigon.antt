@@ -26,7 +26,7 @@ use Rattle.word_networks.proofs.Grids.{grid_is, grid_follows, grid_spells, names
 use Rattle.word_networks.proofs.PlacedGrids.{passes_spell}
 use Rattle.word_networks.proofs.Strands.{member_strands, strand_top, halves}
 use Rattle.strand_words.specs.Grids as words
-use Rattle.coloured_moves.proofs.StepPieces.{AllTop, AllTop-append, IsRun, based, bottoms_kept, runs_anywhere}
+use Rattle.cable_crossings.proofs.StepPieces.{AllTop, AllTop-append, IsRun, based, bottoms_kept, runs_anywhere}
 
 -- ---- a grid with other names
 rename_row : (r : ℕ → ℕ) (x y : ℕ) (v h v' h' : ℕ → ℕ → ℕ) (i j count columns : ℕ) → j + count ≤ columns → ((k : ℕ) → k < columns → r (v i k) ≡ v' i k) → ((k : ℕ) → k < columns → r (v (i + 1) k) ≡ v' (i + 1) k) →
@@ -108,7 +108,7 @@ in_passes new i (suc count) z m =
 pub unless_member : (xs : List ℕ) (z : ℕ) → (is_member ◌==◌ xs z ≡ true → ⊥) → is_member ◌==◌ xs z ≡ false
 unless_member xs z h = ⊎_elim (λ t. absurd (h t)) (λ t. t) (cases_Bool (is_member ◌==◌ xs z))
 
-passes_distinct : (n : ℕ) (new : ℕ → ℕ) → ((j k : ℕ) → j < n → k < n → new j ≡ new k → j ≡ k) → (i count : ℕ) → i + count ≤ n → AreDistinct (new_names (passes new i count))
+pub passes_distinct : (n : ℕ) (new : ℕ → ℕ) → ((j k : ℕ) → j < n → k < n → new j ≡ new k → j ≡ k) → (i count : ℕ) → i + count ≤ n → AreDistinct (new_names (passes new i count))
 passes_distinct n new one i zero l = tt
 passes_distinct n new one i (suc count) l = (
   unless_member (new_names (passes new (i + 1) count)) (new i) (λ m. (let r = in_passes new (i + 1) count (new i) m in let a = r.1 in let b = r.2 in let e = one i r.0 (omega (arith, l)) (omega (arith, b, l)) r.3 in omega (arith, a, e))),
@@ -120,7 +120,7 @@ abbrev pub arcs_between : (ℕ → ℕ) → (ℕ → ℕ) → ℕ → ℕ → Li
 arcs_between f g i zero = []
 arcs_between f g i (suc count) = (f i, g i) ∷ arcs_between f g (i + 1) count
 
-passes_arcs : (r base new f g : ℕ → ℕ) (name : ℕ → ℕ) (n : ℕ) → ((k : ℕ) → k < n → r (base k) ≡ f k) → ((k : ℕ) → k < n → r (new k) ≡ g k) → (i count : ℕ) → i + count ≤ n →
+pub passes_arcs : (r base new f g : ℕ → ℕ) (name : ℕ → ℕ) (n : ℕ) → ((k : ℕ) → k < n → r (base k) ≡ f k) → ((k : ℕ) → k < n → r (new k) ≡ g k) → (i count : ℕ) → i + count ≤ n →
     ((k : ℕ) → i ≤ k → name (top k) ≡ base k) → rename r (step_nodes name (passes new i count)) ≡ arcs_of (arcs_between f g i count)
 passes_arcs r base new f g name n hf hg i zero l at = refl
 passes_arcs r base new f g name n hf hg i (suc count) l at =

@@ -21,12 +21,12 @@ use Rattle.piece_laws.proofs.Ungrouped.{groups}
 use Rattle.cables.proofs.GridNames.{crossing-times}
 use Rattle.cables.proofs.NameCounts.{times-reverse, times_of-append}
 use Rattle.word_networks.specs.GridNetworks.{grid_nodes}
-use Rattle.coloured_moves.proofs.BundleBigon.{arcs_between, from, to}
-use Rattle.coloured_moves.proofs.BundleTurns.{bundle_bigon, both}
-use Rattle.coloured_moves.proofs.CabledGrids.{ungrouped-append, at_append_low, at_append_high, cabled_grid}
+use Rattle.cable_crossings.proofs.BundleBigon.{arcs_between, from, to}
+use Rattle.cable_crossings.proofs.BundleTurns.{bundle_bigon, both}
+use Rattle.cable_crossings.proofs.CabledGrids.{ungrouped-append, at_append_low, at_append_high, cabled_grid}
 
 -- ---- lists of arcs
-zipped : (f g : ℕ → ℕ) (i : ℕ) (xs ys : List ℕ) → length ys ≡ length xs → ((t : ℕ) → t < length xs → slice_index xs t ≡ f (i + t)) → ((t : ℕ) → t < length xs → slice_index ys t ≡ g (i + t)) →
+pub zipped : (f g : ℕ → ℕ) (i : ℕ) (xs ys : List ℕ) → length ys ≡ length xs → ((t : ℕ) → t < length xs → slice_index xs t ≡ f (i + t)) → ((t : ℕ) → t < length xs → slice_index ys t ≡ g (i + t)) →
     arcs_between f g i (length xs) ≡ zip xs ys
 zipped f g i [] ys l hf hg = refl
 zipped f g i (x ∷ xs) [] l hf hg = absurd (omega (arith, l))

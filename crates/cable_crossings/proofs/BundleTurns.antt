@@ -19,8 +19,8 @@ use Rattle.cables.proofs.NameCounts.{at, times_of-append}
 use Rattle.word_networks.specs.GridNetworks.{row_nodes, grid_nodes, turned_column, turned_grid, IsTurned}
 use Rattle.word_networks.proofs.NetworkLaws.{turned_grids}
 use Rattle.word_networks.proofs.TurnedGrids.{grid_ok, grid_is_turned}
-use Rattle.coloured_moves.proofs.BundleBigon.{bundle_bigon_turned, turned_v, turned_h, pairs}
-use Rattle.coloured_moves.proofs.StepPieces.{member_of_one}
+use Rattle.cable_crossings.proofs.BundleBigon.{bundle_bigon_turned, turned_v, turned_h, pairs}
+use Rattle.cable_crossings.proofs.StepPieces.{member_of_one}
 
 -- ---- how often names stand in a grid that is read from the east
 row_last : (x y : ℕ) (v h : ℕ → ℕ → ℕ) (i j count last : ℕ) → last ≡ j + count →

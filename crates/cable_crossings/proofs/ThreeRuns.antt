@@ -1,7 +1,7 @@
 -- Three runs of steps, one after the other, are a run, where their names are apart.
 --
 -- Others cite: three_runs, three_nodes, three_names.
-use Rattle.std.proofs.Common.{◌≡◌, ◌≢◌, ℕ, ◌<◌, ◌==◌, ◌⊎◌, inl, inr, true, List, ◌++◌, sym, ap, ap₂, ◌∙◌, ⊎_elim, subst}
+use Rattle.std.proofs.Common.{◌≡◌, ◌≢◌, ℕ, ◌<◌, ◌==◌, ◌⊎◌, true, List, ◌++◌, sym, ap, ap₂, ◌∙◌, ⊎_elim, subst}
 use Rattle.std.specs.Set.{is_member}
 use Rattle.std.proofs.lemmas.Bool.{or_cases}
 use Rattle.graph_parts.proofs.Distinct.{is_member-append}
@@ -12,8 +12,8 @@ use Rattle.strand_words.specs.Words.{top}
 use Rattle.word_networks.specs.Steps.{Step, names_after, step_nodes, new_names, AreDistinct}
 use Rattle.word_networks.proofs.Fresh.{new_names-append, AreDistinct-append}
 use Rattle.word_networks.proofs.Grids.{names_after-append, step_nodes-append}
-use Rattle.coloured_moves.proofs.BundleBigon.{unless_member}
-use Rattle.coloured_moves.proofs.StepPieces.{AllTop, AllTop-append, IsRun, based}
+use Rattle.cable_crossings.proofs.BundleBigon.{unless_member}
+use Rattle.cable_crossings.proofs.StepPieces.{AllTop, AllTop-append, IsRun, based}
 
 either : (s t : List Step) (z : ℕ) → is_member ◌==◌ (new_names (s ++ t)) z ≡ true → (is_member ◌==◌ (new_names s) z ≡ true) ⊎ (is_member ◌==◌ (new_names t) z ≡ true)
 either s t z m =

@@ -19,12 +19,11 @@ use Rattle.piece_laws.proofs.RenamedNodes.{rename-append, rename_fixed}
 use Rattle.list_lemmas.proofs.Times.{times_of_member, times_in-append, times_in-cons}
 use Rattle.cables.specs.CableNodes.{through_node}
 use Rattle.cables.proofs.NameCounts.{at, times-reverse}
-use Rattle.coloured_moves.proofs.ManyArcs.{many_arcs, joined_all, firsts_of, seconds_of, AreJoinable}
-use Rattle.coloured_moves.proofs.BundleTurns.{runs_exchanged}
-use Rattle.coloured_moves.proofs.CabledBigon.{zip-times}
-use Rattle.coloured_moves.proofs.NetAppends.{All-first}
-use Rattle.coloured_moves.proofs.StepPieces.{member_of_one}
-use Rattle.coloured_moves.proofs.ThroughArcs.{through_arcs}
+use Rattle.cable_crossings.proofs.ManyArcs.{many_arcs, joined_all, firsts_of, seconds_of, AreJoinable}
+use Rattle.cable_crossings.proofs.BundleTurns.{runs_exchanged}
+use Rattle.cable_crossings.proofs.CabledBigon.{zip-times}
+use Rattle.cable_crossings.proofs.StepPieces.{member_of_one, All-first}
+use Rattle.cable_crossings.proofs.ThroughArcs.{through_arcs}
 
 no_member : (z : ℕ) (xs : List ℕ) → times_in xs z ≡ 0 → is_member ◌==◌ xs z ≡ false
 no_member z xs h = ⊎_elim (λ t. absurd (let one = times_of_member z xs t in omega (arith, one, h))) (λ t. t) (cases_Bool (is_member ◌==◌ xs z))

@@ -16,9 +16,9 @@ use Rattle.cables.specs.CableNodes.{crossing_cable, through_node}
 use Rattle.cables.proofs.GridNames.{crossing-times}
 use Rattle.list_lemmas.proofs.Times.{times_in-append}
 use Rattle.cables.proofs.NameCounts.{times-reverse, times_of-append}
-use Rattle.coloured_moves.proofs.CabledBigon.{cabled_bigon}
-use Rattle.coloured_moves.proofs.OneBundle.{through_twice, from_arcs}
-use Rattle.coloured_moves.proofs.ThroughArcs.{through_arcs, turned_arcs}
+use Rattle.cable_crossings.proofs.CabledBigon.{cabled_bigon}
+use Rattle.cable_crossings.proofs.OneBundle.{through_twice, from_arcs}
+use Rattle.cable_crossings.proofs.ThroughArcs.{through_arcs, turned_arcs}
 
 nil : (xs : List ℕ) → length xs ≡ 0 → xs ≡ []
 nil [] h = refl

@@ -3,18 +3,17 @@
 -- other side of the move inner edges have 4 more.
 --
 -- Others cite: code, star, bit, base, one, name, old_run, new_run, sides_agree, old_* and new_* of the three crossings.
-use Rattle.std.proofs.Common.{◌≡◌, ◌≢◌, ℕ, zero, suc, ◌+◌, ◌-◌, ◌*◌, ◌<◌, ◌≤◌, ◌==◌, ◌&&◌, ◌⊎◌, inl, inr, nat_lt, Bool, true, false, cond, List, ◌++◌, refl, sym, ap, ◌∙◌, arith, ⊎_elim}
-use Rattle.std.specs.Set.{is_member}
+use Rattle.std.proofs.Common.{◌≡◌, ◌≢◌, ℕ, ◌+◌, ◌-◌, ◌*◌, ◌<◌, ◌≤◌, ◌&&◌, ◌⊎◌, inl, inr, nat_lt, true, false, cond, List, ◌++◌, refl, sym, ap, ◌∙◌, arith, ⊎_elim}
 use Rattle.std.proofs.lemmas.Bool.Decides.{nat_tests}
 use Rattle.strand_words.specs.Words.{top}
 use Rattle.word_networks.specs.GridNetworks.{FitsGrid}
 use Rattle.word_networks.specs.Spelling.{AgreeOn}
-use Rattle.word_networks.specs.Steps.{Step, names_after, new_names}
+use Rattle.word_networks.specs.Steps.{Step, names_after}
 use Rattle.word_networks.specs.Strands.{strand_of, strand_points}
 use Rattle.word_networks.proofs.Strands.{member_strands, strand_top, halves}
-use Rattle.coloured_moves.proofs.CrossingSteps.{long, long-some, long-le, crossing_steps, Follows, crossing_follows, crossing_tops, crossing_names, crossing_distinct, IsLongName, AreLongNames}
-use Rattle.coloured_moves.proofs.StepPieces.{IsRun, based, bottoms_kept}
-use Rattle.coloured_moves.proofs.ThreeRuns.{three_runs, three_names}
+use Rattle.cable_crossings.proofs.CrossingSteps.{long, long-some, long-le, crossing_steps, Follows, crossing_follows, crossing_tops, crossing_names, crossing_distinct, IsLongName, AreLongNames}
+use Rattle.cable_crossings.proofs.StepPieces.{IsRun, based, bottoms_kept}
+use Rattle.cable_crossings.proofs.ThreeRuns.{three_runs, three_names}
 
 -- the number of edge m of strand i, of the bundle with this tag
 abbrev pub code : ℕ → ℕ → ℕ → ℕ

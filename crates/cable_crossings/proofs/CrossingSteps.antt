@@ -9,7 +9,7 @@
 --     IsLongName, AreLongNames                     a name that the crossing gives; no two of them are equal
 --
 -- Others cite: crossing_tops, crossing_follows, crossing_names, crossing_distinct, crossing_spells, crossing_renamed, crossing_ok.
-use Rattle.std.proofs.Common.{◌≡◌, ◌≢◌, ℕ, zero, suc, ◌+◌, ◌-◌, ◌<◌, ◌≤◌, ◌==◌, ◌⊎◌, inl, inr, Bool, true, List, [], ◌∷◌, ◌++◌, map, refl, sym, ap, ap₂, ◌∙◌, arith, ⊎_elim, All, subst}
+use Rattle.std.proofs.Common.{◌≡◌, ◌≢◌, ℕ, zero, suc, ◌+◌, ◌-◌, ◌<◌, ◌≤◌, ◌==◌, ◌⊎◌, inl, inr, Bool, true, List, [], ◌∷◌, map, refl, sym, ap, ap₂, ◌∙◌, arith, ⊎_elim, All, subst}
 use Rattle.std.specs.List.{range_with_len, zip}
 use Rattle.std.specs.Set.{is_member}
 use Rattle.std.proofs.lemmas.List.Elements.{All-nil}
@@ -19,7 +19,7 @@ use Rattle.piece_laws.specs.Arcs.{arcs_of}
 use Rattle.piece_laws.proofs.ArcEdges.{IsNode-arcs}
 use Rattle.strand_words.specs.Grids.{crossed}
 use Rattle.strand_words.specs.Words.{Letter, top}
-use Rattle.word_networks.specs.GridNetworks.{grid_nodes, grid_steps, FitsGrid, FollowsGrid, AreGridNames}
+use Rattle.word_networks.specs.GridNetworks.{grid_nodes, grid_steps, FitsGrid}
 use Rattle.word_networks.specs.PlacedGrids.{passes}
 use Rattle.word_networks.specs.Spelling.{Spells}
 use Rattle.word_networks.specs.Steps.{Step, named, names_after, step_nodes, new_names, AreDistinct}
@@ -28,9 +28,8 @@ use Rattle.word_networks.proofs.Grids.{grid_is, grid_follows, grid_spells}
 use Rattle.word_networks.proofs.PlacedGrids.{passes_spell}
 use Rattle.word_networks.proofs.TurnedGrids.{grid_ok}
 use Rattle.strand_words.specs.Grids as words
-use Rattle.coloured_moves.proofs.BundleBigon.{rename_grid, grid_tops, passes_tops, passes_at, in_passes, unless_member, named_other, arcs_between}
-use Rattle.coloured_moves.proofs.NetAppends.{All-first}
-use Rattle.coloured_moves.proofs.StepPieces.{AllTop}
+use Rattle.cable_crossings.proofs.BundleBigon.{rename_grid, grid_tops, passes_tops, passes_at, in_passes, unless_member, named_other, arcs_between}
+use Rattle.cable_crossings.proofs.StepPieces.{AllTop, All-first}
 
 -- n, but 1 for 0
 abbrev pub long : ℕ → ℕ

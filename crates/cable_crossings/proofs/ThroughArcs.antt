@@ -1,6 +1,6 @@
 -- Strands that go straight through are arcs.
 --
--- Others cite: through_arcs.
+-- Others cite: zip_contains, same_arcs, turned_arcs, through_arcs.
 use Rattle.std.proofs.Common.{◌≡◌, ℕ, zero, suc, ◌+◌, ◌-◌, ◌^◌, ◌%◌, ◌<◌, ◌≤◌, ◌==◌, ◌⊎◌, inl, inr, nat_lt, true, false, List, [], ◌∷◌, ◌++◌, map, length, reverse, slice_index, Contains, refl, sym, ap, ◌∙◌, arith, ⊎_elim, All, subst, length-append}
 use Rattle.std.specs.List.{zip, AllPass}
 use Rattle.std.specs.Set.{is_member}
@@ -26,10 +26,16 @@ use Rattle.strand_algebra.specs.StrandPairings.{straight}
 use Rattle.cables.specs.CableNodes.{through_node}
 use Rattle.cables.proofs.NameCounts.{times-reverse}
 use Rattle.list_lemmas.proofs.Bools.{same_bool}
-use Rattle.coloured_moves.proofs.CabledBigon.{zip-times}
-use Rattle.coloured_moves.proofs.CabledGrids.{at_append_low, at_append_high}
-use Rattle.coloured_moves.proofs.CutCloses.{zip_contains}
-use Rattle.coloured_moves.proofs.StepPieces.{member_of_one}
+use Rattle.cable_crossings.proofs.CabledBigon.{zip-times}
+use Rattle.cable_crossings.proofs.CabledGrids.{at_append_low, at_append_high}
+use Rattle.cable_crossings.proofs.StepPieces.{member_of_one}
+
+-- ---- lists of pairs
+pub zip_contains : (i : ℕ) (xs ys : List ℕ) → i < length xs → length ys ≡ length xs → Contains (zip xs ys) (slice_index xs i, slice_index ys i)
+zip_contains i [] ys l e = absurd (omega (arith, l))
+zip_contains i (x ∷ xs) [] l e = absurd (omega (arith, e))
+zip_contains zero (x ∷ xs) (y ∷ ys) l e = (0, omega arith, refl)
+zip_contains (suc i) (x ∷ xs) (y ∷ ys) l e = let c = zip_contains i xs ys (omega (arith, l)) (omega (arith, e)) in (suc c.0, omega (arith, c.1), c.2)
 
 arc_within : (pairs : List (ℕ × ℕ)) (x y : ℕ) → Contains (arc_edges pairs) (x, y) → Contains pairs (x, y) ⊎ Contains pairs (y, x)
 arc_within [] x y h = absurd (omega (arith, h.1))

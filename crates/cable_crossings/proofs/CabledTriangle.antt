@@ -1,7 +1,7 @@
 -- Three cabled crossings round a triangle count as the same crossings behind the third move. The bundles of the triangle's inner edges
 -- have no box: their names at one end are those at the other, in the other order.
 --
--- Others cite: three_times, Bundles, cabled_triangle.
+-- Others cite: three_times, turned_at, Bundles, cabled_triangle.
 use Rattle.std.proofs.Common.{◌≡◌, ℕ, ◌+◌, ◌-◌, ◌<◌, ◌≤◌, ◌⊎◌, Bool, if◌then◌else◌, List, ◌++◌, length, reverse, slice_index, sym, ap, ap₂, ◌∙◌, arith, All, append_assoc}
 use Rattle.std.proofs.lemmas.List.{get_or-reverse}
 use Rattle.std.proofs.lemmas.List.Elements.{All-append}
@@ -12,10 +12,10 @@ use Rattle.list_lemmas.specs.Times.{times_in}
 use Rattle.list_lemmas.proofs.Times.{times_of_member, times_in-append}
 use Rattle.piece_laws.specs.Pieces.{ArePaired}
 use Rattle.cables.proofs.NameCounts.{times_of-append}
-use Rattle.coloured_moves.proofs.BundleTurns.{runs_exchanged}
-use Rattle.coloured_moves.proofs.CrossingSteps.{long, crossing_nodes, crossing_ok}
-use Rattle.coloured_moves.proofs.ToldCrossings.{IsTold}
-use Rattle.coloured_moves.proofs.TriangleNames.{Meets, bundle_triangle}
+use Rattle.cable_crossings.proofs.BundleTurns.{runs_exchanged}
+use Rattle.cable_crossings.proofs.CrossingSteps.{long, crossing_nodes, crossing_ok}
+use Rattle.cable_crossings.proofs.ToldCrossings.{IsTold}
+use Rattle.cable_crossings.proofs.TriangleNames.{Meets, bundle_triangle}
 
 -- ---- runs of nodes that count as others in front count so behind others, too
 Alike : ℕ → ℕ → ℕ → List Node → List Node → Type 0
@@ -75,7 +75,7 @@ pub record Bundles (x y z : ℕ) (Yh Zh Zt Xt Xb Yb P Q R S T U : List ℕ) : Ty
   pub length_t : length T ≡ y
   pub length_u : length U ≡ z
 
-turned_at : (xs ys : List ℕ) (n i : ℕ) → ys ≡ reverse xs → length xs ≡ n → i < n → slice_index ys i ≡ slice_index xs (n - 1 - i)
+pub turned_at : (xs ys : List ℕ) (n i : ℕ) → ys ≡ reverse xs → length xs ≡ n → i < n → slice_index ys i ≡ slice_index xs (n - 1 - i)
 turned_at xs ys n i e l h = ap (λ zs. slice_index zs i) e ∙ get_or-reverse xs i 0 (omega (arith, h, l)) ∙ ap (λ k. slice_index xs (k - 1 - i)) l
 
 module _ (m a b delta : ℕ) (numbers : AreSkeinNumbers m a b delta) (s t u : Bool) (one_above : (s ≡ t) ⊎ (t ≡ u)) (x y z : ℕ) (few_x : x ≤ 8) (few_y : y ≤ 8) (few_z : z ≤ 8)

@@ -1,7 +1,7 @@
 -- The third move of three bundles at any names: the numbers that are written out are read as names of the crossings.
 --
 -- Others cite: Meets, bundle_triangle.
-use Rattle.std.proofs.Common.{◌≡◌, ℕ, zero, suc, ◌+◌, ◌-◌, ◌*◌, ◌/◌, ◌%◌, ◌<◌, ◌≤◌, ◌==◌, ◌⊎◌, inl, inr, nat_lt, nat_le, Bool, true, false, if◌then◌else◌, cond, List, ◌++◌, map, refl, sym, ap, ap₂, ◌∙◌, arith, ⊎_elim, All, subst}
+use Rattle.std.proofs.Common.{◌≡◌, ℕ, zero, suc, ◌+◌, ◌-◌, ◌/◌, ◌%◌, ◌<◌, ◌≤◌, ◌==◌, ◌⊎◌, inl, inr, nat_lt, nat_le, Bool, true, false, if◌then◌else◌, cond, List, ◌++◌, map, refl, sym, ap, ap₂, ◌∙◌, arith, ⊎_elim, All, subst}
 use Rattle.std.proofs.lemmas.Bool.Decides.{nat_tests}
 use Rattle.state_sums.specs.LocalSums.{rename, AreSkeinNumbers}
 use Rattle.state_sums.specs.Networks.{Node, IsNode, names_of}
@@ -9,16 +9,14 @@ use Rattle.state_sums.specs.StateSums.{value}
 use Rattle.state_sums.proofs.NodeNames.{names_of-rename}
 use Rattle.piece_laws.specs.Pieces.{ArePaired}
 use Rattle.strand_words.specs.Grids.{crossed}
-use Rattle.strand_words.specs.Words.{Letter}
 use Rattle.strand_words.proofs.WordLaws.{bundle_third_move}
-use Rattle.word_networks.specs.Spelling.{Spells}
-use Rattle.word_networks.specs.Steps.{step_nodes}
+use Rattle.word_networks.specs.Steps.{Step, step_nodes}
 use Rattle.word_networks.proofs.Grids.{Spells-append}
 use Rattle.strand_words.specs.Grids as words
-use Rattle.coloured_moves.proofs.BundleTriangle.{code, bit, star, bit_end, bit_inner, base, one, name, olds, news, s1, s2, s3, t1, t2, t3, n1, n2, m1, m2, v1, h1, v2, h2, v3, h3, w1, k1, w2, k2, w3, k3, fits_1, fits_2, fits_3, fits_4, fits_5, fits_6, old_run, new_run, sides_agree}
-use Rattle.coloured_moves.proofs.CrossingSteps.{long, long-some, long-le, crossing_nodes, crossing_renamed, crossing_spells}
-use Rattle.coloured_moves.proofs.StepPieces.{runs_anywhere}
-use Rattle.coloured_moves.proofs.ThreeRuns.{three_nodes}
+use Rattle.cable_crossings.proofs.BundleTriangle.{code, bit, star, bit_end, bit_inner, base, one, name, olds, news, s1, s2, s3, t1, t2, t3, n1, n2, m1, m2, v1, h1, v2, h2, v3, h3, w1, k1, w2, k2, w3, k3, fits_1, fits_2, fits_3, fits_4, fits_5, fits_6, old_run, new_run, sides_agree}
+use Rattle.cable_crossings.proofs.CrossingSteps.{long, long-some, long-le, crossing_nodes, crossing_renamed, crossing_spells}
+use Rattle.cable_crossings.proofs.StepPieces.{runs_anywhere}
+use Rattle.cable_crossings.proofs.ThreeRuns.{three_nodes}
 
 -- The names of the six crossings meet: the strands' inner edges, and their ends on both sides of the move.
 pub record Meets (x y z : ℕ) (V1 H1 V2 H2 V3 H3 W1 K1 W2 K2 W3 K3 : ℕ → ℕ → ℕ) : Type 0 where
@@ -215,26 +213,63 @@ module _ (x y z : ℕ) (few_x : x ≤ 8) (few_y : y ≤ 8) (few_z : z ≤ 8) (V1
     abbrev the_name : ℕ → ℕ
     the_name = name x y z few_x few_y few_z
 
-    old_are : rename r (step_nodes the_name (olds x y z few_x few_y few_z (straight s) (hook s) (straight t) (hook t) (straight u) (hook u))) ≡ old_three
+    -- the runs of both sides, with these weights
+    abbrev before_1 : List Step
+    before_1 = s1 x y z few_x few_y few_z (straight s) (hook s) (straight t) (hook t) (straight u) (hook u)
+
+    abbrev before_2 : List Step
+    before_2 = s2 x y z few_x few_y few_z (straight s) (hook s) (straight t) (hook t) (straight u) (hook u)
+
+    abbrev before_3 : List Step
+    before_3 = s3 x y z few_x few_y few_z (straight s) (hook s) (straight t) (hook t) (straight u) (hook u)
+
+    abbrev behind_1 : List Step
+    behind_1 = t1 x y z few_x few_y few_z (straight s) (hook s) (straight t) (hook t) (straight u) (hook u)
+
+    abbrev behind_2 : List Step
+    behind_2 = t2 x y z few_x few_y few_z (straight s) (hook s) (straight t) (hook t) (straight u) (hook u)
+
+    abbrev behind_3 : List Step
+    behind_3 = t3 x y z few_x few_y few_z (straight s) (hook s) (straight t) (hook t) (straight u) (hook u)
+
+    abbrev steps : List Step
+    steps = olds x y z few_x few_y few_z (straight s) (hook s) (straight t) (hook t) (straight u) (hook u)
+
+    abbrev others : List Step
+    others = news x y z few_x few_y few_z (straight s) (hook s) (straight t) (hook t) (straight u) (hook u)
+
+    abbrev named_1 : ℕ → ℕ
+    named_1 = n1 x y z few_x few_y few_z (straight s) (hook s) (straight t) (hook t) (straight u) (hook u)
+
+    abbrev named_2 : ℕ → ℕ
+    named_2 = n2 x y z few_x few_y few_z (straight s) (hook s) (straight t) (hook t) (straight u) (hook u)
+
+    abbrev renamed_1 : ℕ → ℕ
+    renamed_1 = m1 x y z few_x few_y few_z (straight s) (hook s) (straight t) (hook t) (straight u) (hook u)
+
+    abbrev renamed_2 : ℕ → ℕ
+    renamed_2 = m2 x y z few_x few_y few_z (straight s) (hook s) (straight t) (hook t) (straight u) (hook u)
+
+    old_are : rename r (step_nodes the_name steps) ≡ old_three
     old_are =
-        three_nodes r the_name (s1 x y z few_x few_y few_z (straight s) (hook s) (straight t) (hook t) (straight u) (hook u)) (s2 x y z few_x few_y few_z (straight s) (hook s) (straight t) (hook t) (straight u) (hook u))
-        (s3 x y z few_x few_y few_z (straight s) (hook s) (straight t) (hook t) (straight u) (hook u))
+        three_nodes r the_name before_1 before_2
+        before_3
         (crossing_nodes (straight s) (hook s) V1 H1 x y) (crossing_nodes (straight t) (hook t) V2 H2 x z) (crossing_nodes (straight u) (hook u) V3 H3 y z)
         (crossing_renamed r (straight s) (hook s) (v1 x y z few_x few_y few_z) (h1 x y z few_x few_y few_z) V1 H1 the_name 0 x y (fits_1 x y z few_x few_y few_z (straight s) (hook s) (straight t) (hook t) (straight u) (hook u)) v1_is h1_is)
-        (crossing_renamed r (straight t) (hook t) (v2 x y z few_x few_y few_z) (h2 x y z few_x few_y few_z) V2 H2 (n1 x y z few_x few_y few_z (straight s) (hook s) (straight t) (hook t) (straight u) (hook u)) (0 + y) x z
+        (crossing_renamed r (straight t) (hook t) (v2 x y z few_x few_y few_z) (h2 x y z few_x few_y few_z) V2 H2 named_1 (0 + y) x z
         (fits_2 x y z few_x few_y few_z (straight s) (hook s) (straight t) (hook t) (straight u) (hook u)) v2_is h2_is)
-        (crossing_renamed r (straight u) (hook u) (v3 x y z few_x few_y few_z) (h3 x y z few_x few_y few_z) V3 H3 (n2 x y z few_x few_y few_z (straight s) (hook s) (straight t) (hook t) (straight u) (hook u)) 0 y z
+        (crossing_renamed r (straight u) (hook u) (v3 x y z few_x few_y few_z) (h3 x y z few_x few_y few_z) V3 H3 named_2 0 y z
         (fits_3 x y z few_x few_y few_z (straight s) (hook s) (straight t) (hook t) (straight u) (hook u)) v3_is h3_is)
 
-    new_are : rename r (step_nodes the_name (news x y z few_x few_y few_z (straight s) (hook s) (straight t) (hook t) (straight u) (hook u))) ≡ new_three
+    new_are : rename r (step_nodes the_name others) ≡ new_three
     new_are =
-        three_nodes r the_name (t1 x y z few_x few_y few_z (straight s) (hook s) (straight t) (hook t) (straight u) (hook u)) (t2 x y z few_x few_y few_z (straight s) (hook s) (straight t) (hook t) (straight u) (hook u))
-        (t3 x y z few_x few_y few_z (straight s) (hook s) (straight t) (hook t) (straight u) (hook u))
+        three_nodes r the_name behind_1 behind_2
+        behind_3
         (crossing_nodes (straight u) (hook u) W1 K1 y z) (crossing_nodes (straight t) (hook t) W2 K2 x z) (crossing_nodes (straight s) (hook s) W3 K3 x y)
         (crossing_renamed r (straight u) (hook u) (w1 x y z few_x few_y few_z) (k1 x y z few_x few_y few_z) W1 K1 the_name (0 + x) y z (fits_4 x y z few_x few_y few_z (straight s) (hook s) (straight t) (hook t) (straight u) (hook u)) w1_is k1_is)
-        (crossing_renamed r (straight t) (hook t) (w2 x y z few_x few_y few_z) (k2 x y z few_x few_y few_z) W2 K2 (m1 x y z few_x few_y few_z (straight s) (hook s) (straight t) (hook t) (straight u) (hook u)) 0 x z
+        (crossing_renamed r (straight t) (hook t) (w2 x y z few_x few_y few_z) (k2 x y z few_x few_y few_z) W2 K2 renamed_1 0 x z
         (fits_5 x y z few_x few_y few_z (straight s) (hook s) (straight t) (hook t) (straight u) (hook u)) w2_is k2_is)
-        (crossing_renamed r (straight s) (hook s) (w3 x y z few_x few_y few_z) (k3 x y z few_x few_y few_z) W3 K3 (m2 x y z few_x few_y few_z (straight s) (hook s) (straight t) (hook t) (straight u) (hook u)) (0 + z) x y
+        (crossing_renamed r (straight s) (hook s) (w3 x y z few_x few_y few_z) (k3 x y z few_x few_y few_z) W3 K3 renamed_2 (0 + z) x y
         (fits_6 x y z few_x few_y few_z (straight s) (hook s) (straight t) (hook t) (straight u) (hook u)) w3_is k3_is)
 
     -- THE THIRD MOVE OF BUNDLES, AT ANY NAMES
@@ -242,25 +277,17 @@ module _ (x y z : ℕ) (few_x : x ≤ 8) (few_y : y ≤ 8) (few_z : z ≤ 8) (V1
         value m delta record { nodes = old_three ++ rest; free_loops = free } ≡ value m delta record { nodes = new_three ++ rest; free_loops = free }
     bundle_triangle old_pairs new_pairs =
         let P : List ℕ → Type 0 = λ ns. ArePaired ns (ns ++ names_of rest) in
-        let steps = olds x y z few_x few_y few_z (straight s) (hook s) (straight t) (hook t) (straight u) (hook u) in
-        let others = news x y z few_x few_y few_z (straight s) (hook s) (straight t) (hook t) (straight u) (hook u) in
         let old_names : map r (names_of (step_nodes the_name steps)) ≡ names_of old_three = sym (names_of-rename r (step_nodes the_name steps)) ∙ ap names_of old_are in
         let new_names : map r (names_of (step_nodes the_name others)) ≡ names_of new_three = sym (names_of-rename r (step_nodes the_name others)) ∙ ap names_of new_are in
         let g1 = words.grid a b s 0 x y in let g2 = words.grid a b t (0 + y) x z in let g3 = words.grid a b u 0 y z in
         let f1 = words.grid a b u (0 + x) y z in let f2 = words.grid a b t 0 x z in let f3 = words.grid a b s (0 + z) x y in
-        let p1 = s1 x y z few_x few_y few_z (straight s) (hook s) (straight t) (hook t) (straight u) (hook u) in
-        let p2 = s2 x y z few_x few_y few_z (straight s) (hook s) (straight t) (hook t) (straight u) (hook u) in
-        let p3 = s3 x y z few_x few_y few_z (straight s) (hook s) (straight t) (hook t) (straight u) (hook u) in
-        let q1 = t1 x y z few_x few_y few_z (straight s) (hook s) (straight t) (hook t) (straight u) (hook u) in
-        let q2 = t2 x y z few_x few_y few_z (straight s) (hook s) (straight t) (hook t) (straight u) (hook u) in
-        let q3 = t3 x y z few_x few_y few_z (straight s) (hook s) (straight t) (hook t) (straight u) (hook u) in
         ap (λ ns. value m delta record { nodes = ns ++ rest; free_loops = free }) (sym old_are)
         ∙ runs_anywhere (x + y + z) (base x y z few_x few_y few_z) (one x y z few_x few_y few_z) m delta free (g1 ++ (g2 ++ g3)) (f1 ++ (f2 ++ f3)) steps others r rest
         (bundle_third_move m a b delta 0 x y z s t u numbers one_above)
-        (Spells-append g1 (g2 ++ g3) p1 (p2 ++ p3) (crossing_spells a b s (v1 x y z few_x few_y few_z) (h1 x y z few_x few_y few_z) 0 x y)
-        (Spells-append g2 g3 p2 p3 (crossing_spells a b t (v2 x y z few_x few_y few_z) (h2 x y z few_x few_y few_z) (0 + y) x z) (crossing_spells a b u (v3 x y z few_x few_y few_z) (h3 x y z few_x few_y few_z) 0 y z)))
-        (Spells-append f1 (f2 ++ f3) q1 (q2 ++ q3) (crossing_spells a b u (w1 x y z few_x few_y few_z) (k1 x y z few_x few_y few_z) (0 + x) y z)
-        (Spells-append f2 f3 q2 q3 (crossing_spells a b t (w2 x y z few_x few_y few_z) (k2 x y z few_x few_y few_z) 0 x z) (crossing_spells a b s (w3 x y z few_x few_y few_z) (k3 x y z few_x few_y few_z) (0 + z) x y)))
+        (Spells-append g1 (g2 ++ g3) before_1 (before_2 ++ before_3) (crossing_spells a b s (v1 x y z few_x few_y few_z) (h1 x y z few_x few_y few_z) 0 x y)
+        (Spells-append g2 g3 before_2 before_3 (crossing_spells a b t (v2 x y z few_x few_y few_z) (h2 x y z few_x few_y few_z) (0 + y) x z) (crossing_spells a b u (v3 x y z few_x few_y few_z) (h3 x y z few_x few_y few_z) 0 y z)))
+        (Spells-append f1 (f2 ++ f3) behind_1 (behind_2 ++ behind_3) (crossing_spells a b u (w1 x y z few_x few_y few_z) (k1 x y z few_x few_y few_z) (0 + x) y z)
+        (Spells-append f2 f3 behind_2 behind_3 (crossing_spells a b t (w2 x y z few_x few_y few_z) (k2 x y z few_x few_y few_z) 0 x z) (crossing_spells a b s (w3 x y z few_x few_y few_z) (k3 x y z few_x few_y few_z) (0 + z) x y)))
         (old_run x y z few_x few_y few_z (straight s) (hook s) (straight t) (hook t) (straight u) (hook u)) (new_run x y z few_x few_y few_z (straight s) (hook s) (straight t) (hook t) (straight u) (hook u))
         (sides_agree x y z few_x few_y few_z (straight s) (hook s) (straight t) (hook t) (straight u) (hook u)) ok (subst P (sym old_names) old_pairs) (subst P (sym new_names) new_pairs)
         ∙ ap (λ ns. value m delta record { nodes = ns ++ rest; free_loops = free }) new_are
