@@ -23,15 +23,23 @@ pub(crate) fn crossings(items: &[Item]) -> u32 {
     count
 }
 
-/// Steps of one edge or crossing.
-fn push_single(steps: &mut Vec<Step>, sizes: Sizes) -> Result<(), AllocError> {
+/// Both curls on each edge.
+fn push_curls(steps: &mut Vec<Step>, sizes: Sizes) -> Result<(), AllocError> {
     for sign in [Sign::Plus, Sign::Minus] {
-        steps.push(Step::BlowUp { sign })?;
         for edge in 0..sizes.edges {
             let edge = edge + 1;
             steps.push(Step::Curl { edge, sign })?;
         }
     }
+    Ok(())
+}
+
+/// Steps of one edge or crossing, and of none.
+fn push_single(steps: &mut Vec<Step>, sizes: Sizes) -> Result<(), AllocError> {
+    for sign in [Sign::Plus, Sign::Minus] {
+        steps.push(Step::BlowUp { sign })?;
+    }
+    push_curls(steps, sizes)?;
     for crossing in 0..sizes.crossings {
         let crossing = crossing + 1;
         steps.push(Step::CurlUndo { crossing })?;
@@ -79,30 +87,38 @@ pub(crate) fn all_steps(alloc: Global, sizes: Sizes) -> Result<Vec<Step>, AllocE
     Ok(steps)
 }
 
-/// The step that takes an `R2`, an `R3` or a curl back, where the result has so many crossings and the curl is the one with the number.
-pub(crate) fn taking_back(step: &Step, crossings: u32, curl: u32) -> Option<Step> {
+/// The steps of which one takes a step back, on a result of these sizes, where a curl is the crossing with the number: the one that undoes it,
+/// every `R2` for an `R2Undo`, every curl for a `CurlUndo`, and none for a blow-up.
+pub(crate) fn taking_back(
+    alloc: Global,
+    step: &Step,
+    sizes: Sizes,
+    curl: u32,
+) -> Result<Vec<Step>, AllocError> {
+    let mut steps = Vec::new(alloc);
     match *step {
-        Step::R2 { over: _, under: _ } => Some(Step::R2Undo {
-            first: crossings.saturating_sub(1),
-            second: crossings,
-        }),
+        Step::R2 { over: _, under: _ } => steps.push(Step::R2Undo {
+            first: sizes.crossings.saturating_sub(1),
+            second: sizes.crossings,
+        })?,
         Step::R3 {
             first,
             second,
             third,
-        } => Some(Step::R3 {
+        } => steps.push(Step::R3 {
             first,
             second,
             third,
-        }),
-        Step::Curl { edge: _, sign: _ } => Some(Step::CurlUndo { crossing: curl }),
+        })?,
+        Step::Curl { edge: _, sign: _ } => steps.push(Step::CurlUndo { crossing: curl })?,
         Step::R2Undo {
             first: _,
             second: _,
-        } => None,
-        Step::CurlUndo { crossing: _ } => None,
-        Step::BlowUp { sign: _ } => None,
+        } => push_pairs(&mut steps, sizes)?,
+        Step::CurlUndo { crossing: _ } => push_curls(&mut steps, sizes)?,
+        Step::BlowUp { sign: _ } => {}
     }
+    Ok(steps)
 }
 
 /// The number of the crossing that a curl adds: the first that is none of the diagram's, crossing by crossing.

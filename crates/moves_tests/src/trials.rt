@@ -87,33 +87,41 @@ fn agree(before: u64, factor: Factor, after: u64) -> bool {
     }
 }
 
-/// The items are those of the diagram; or, since a loop that comes back stands at the end, they are as many, with the same bracket.
+/// The items are those of the diagram; or, since a loop that comes back stands at the end and an edge may get another label, they are as many, in as
+/// many components, with the same bracket.
 fn is_same(alloc: Global, params: &Params, diagram: &Planar, again: &Planar) -> bool {
     let items = diagram.diagram().items();
     let found = again.diagram().items();
     if found == items {
         return true;
     }
-    found.len() == items.len() && bracket(alloc, params, again) == bracket(alloc, params, diagram)
+    found.len() == items.len()
+        && again.components() == diagram.components()
+        && bracket(alloc, params, again) == bracket(alloc, params, diagram)
 }
 
-/// The step that takes the step back, if there is one, gives the diagram again.
+/// One of the steps that take the step back gives the diagram again.
 fn is_taken_back(
     alloc: Global,
     params: &Params,
     diagram: &Planar,
     step: &Step,
     moved: &Moved,
-) -> bool {
-    let count = crossings(moved.diagram.diagram().items());
+) -> Result<bool, AllocError> {
+    let items = moved.diagram.diagram().items();
+    let sizes = Sizes {
+        edges: greatest_label(alloc, items)?,
+        crossings: crossings(items),
+    };
     let curl = new_crossing(diagram, &moved.diagram);
-    match taking_back(step, count, curl) {
-        Some(back) => match made(alloc, &moved.diagram, &back) {
-            Ok(again) => is_same(alloc, params, diagram, &again.diagram),
-            Err(_) => false,
-        },
-        None => false,
+    for back in &taking_back(alloc, step, sizes, curl)? {
+        if let Ok(again) = made(alloc, &moved.diagram, back) {
+            if is_same(alloc, params, diagram, &again.diagram) {
+                return Ok(true);
+            }
+        }
     }
+    Ok(false)
 }
 
 /// Tries every step.
@@ -136,7 +144,7 @@ pub(crate) fn try_all(alloc: Global, params: &Params, diagram: &Planar) -> Optio
             Ok(moved) => {
                 let after = bracket(alloc, params, &moved.diagram)?;
                 let kept = agree(before, moved.factor, after);
-                let back = is_taken_back(alloc, params, diagram, step, &moved);
+                let back = is_taken_back(alloc, params, diagram, step, &moved).ok()?;
                 seen.accepted = seen.accepted.saturating_add(1);
                 seen.kept = seen.kept.saturating_add(u32::from(kept));
                 seen.taken_back = seen.taken_back.saturating_add(u32::from(back));
