@@ -17,35 +17,25 @@ SHIM = r"""
 #define _GNU_SOURCE
 #include <dlfcn.h>
 #include <errno.h>
+#include <fcntl.h>
 #include <stdatomic.h>
-#include <stdio.h>
 #include <stdlib.h>
-#include <string.h>
+#include <sys/mman.h>
+#include <unistd.h>
 
-static atomic_long calls;
-static long refused = -1;
-static const char *told;
+/* The count stands in a file, since the program may end without a word to libraries. */
+static atomic_long *calls;
+static long refused;
 
 __attribute__((constructor)) static void begin(void) {
-    const char *number = getenv("REFUSED_ALLOCATION");
-    told = getenv("ALLOCATIONS_FILE");
-    refused = number ? atol(number) : 0;
-    atomic_store(&calls, 0);
-}
-
-__attribute__((destructor)) static void end(void) {
-    long made = atomic_load(&calls);
-    FILE *file;
-    refused = 0;
-    if (told && (file = fopen(told, "w"))) {
-        fprintf(file, "%ld", made);
-        fclose(file);
-    }
+    int file = open(getenv("ALLOCATIONS_FILE"), O_RDWR);
+    refused = atol(getenv("REFUSED_ALLOCATION"));
+    calls = mmap(NULL, sizeof *calls, PROT_READ | PROT_WRITE, MAP_SHARED, file, 0);
+    close(file);
 }
 
 static int is_refused(void) {
-    long number = atomic_fetch_add(&calls, 1) + 1;
-    return number == refused;
+    return calls && atomic_fetch_add(calls, 1) + 1 == refused;
 }
 
 #define NEXT(name) static __typeof__(name) *next; if (!next) next = dlsym(RTLD_NEXT, #name)
@@ -89,9 +79,11 @@ RUNS = [
 def run(program, words, given, shim, refused, told):
     """The status and the output of a run that refuses that allocation (0: none), and how many it made."""
     settings = {"LD_PRELOAD": shim, "REFUSED_ALLOCATION": str(refused), "ALLOCATIONS_FILE": told}
+    with open(told, "wb") as file:
+        file.write(bytes(8))
     ended = subprocess.run([program, *words.split()], input=given.encode(), capture_output=True, env=settings, timeout=60)
-    with open(told) as file:
-        return ended.returncode, ended.stdout, int(file.read() or 0)
+    with open(told, "rb") as file:
+        return ended.returncode, ended.stdout, int.from_bytes(file.read(8), "little")
 
 
 def refuse_each(program, words, given, shim, told):
