@@ -1,7 +1,5 @@
 -- Two bundles that cross and cross back, told from any of the slots of both crossings, and each of which may be empty: they are arcs.
 -- Strand i of a bundle has at its m-th edge, counted from below, the number 8 (32 i + m), and 1 more in the second bundle.
---
--- Others cite: bundle_pair.
 use Rattle.std.proofs.Common.{◌≡◌, ◌≢◌, ℕ, zero, suc, ◌+◌, ◌-◌, ◌/◌, ◌%◌, ◌<◌, ◌≤◌, ◌==◌, ◌⊎◌, inl, inr, nat_lt, nat_le, not, Bool, true, false, if◌then◌else◌, cond, List, [], ◌++◌, map, refl, sym, ap, ap₂, ◌∙◌, arith, ⊎_elim, All, subst, append-nil}
 use Rattle.std.proofs.lemmas.Bool.Decides.{nat_tests}
 use Rattle.state_sums.specs.LocalSums.{rename, AreSkeinNumbers}
@@ -226,9 +224,9 @@ module _ (x y : ℕ) (few_x : x ≤ 8) (few_y : y ≤ 8) where
         (halves u)
 
   -- ---- at any names
-  module _ (V1 H1 V2 H2 : ℕ → ℕ → ℕ) (meet_x : (i : ℕ) → i < x → H1 i ly ≡ V2 0 (x - 1 - i)) (meet_y : (c : ℕ) → c < y → V1 lx c ≡ H2 (y - 1 - c) 0) where
+  module _ (V₁ H₁ V₂ H₂ : ℕ → ℕ → ℕ) (meet_x : (i : ℕ) → i < x → H₁ i ly ≡ V₂ 0 (x - 1 - i)) (meet_y : (c : ℕ) → c < y → V₁ lx c ≡ H₂ (y - 1 - c) 0) where
     abbrev pick : ℕ → ℕ → ℕ → ℕ
-    pick tag i m = cond (tag == 0) (cond (nat_le m ly) (H1 i m) (V2 (m - ly) (x - 1 - i))) (cond (nat_le m lx) (V1 m i) (H2 (y - 1 - i) (m - lx)))
+    pick tag i m = cond (tag == 0) (cond (nat_le m ly) (H₁ i m) (V₂ (m - ly) (x - 1 - i))) (cond (nat_le m lx) (V₁ m i) (H₂ (y - 1 - i) (m - lx)))
 
     abbrev r : ℕ → ℕ
     r w = pick (w % 8) (w / 8 / 32) (w / 8 % 32)
@@ -251,43 +249,43 @@ module _ (x y : ℕ) (few_x : x ≤ 8) (few_y : y ≤ 8) where
     joined f g at zero e = let s : at + 0 ≡ at = omega arith in in_le (at + 0) at (f (at + 0)) (g (at + 0 - at)) (omega arith) ∙ ap f s ∙ e
     joined f g at (suc j) e = let s : at + suc j - at ≡ suc j = omega arith in out_le (at + suc j) at (f (at + suc j)) (g (at + suc j - at)) (omega arith) ∙ ap g s
 
-    v1_is : (i j : ℕ) → i ≤ lx → j < y → r (v1 i j) ≡ V1 i j
-    v1_is i j l h = let a = low_x in r_code 1 j i (omega arith) (omega (arith, l, a)) ∙ in_le i lx (V1 i j) (H2 (y - 1 - j) (i - lx)) l
+    v1_is : (i j : ℕ) → i ≤ lx → j < y → r (v1 i j) ≡ V₁ i j
+    v1_is i j l h = let a = low_x in r_code 1 j i (omega arith) (omega (arith, l, a)) ∙ in_le i lx (V₁ i j) (H₂ (y - 1 - j) (i - lx)) l
 
-    h1_is : (i j : ℕ) → i < x → j ≤ ly → r (h1 i j) ≡ H1 i j
-    h1_is i j l h = let a = low_y in r_code 0 i j (omega arith) (omega (arith, h, a)) ∙ in_le j ly (H1 i j) (V2 (j - ly) (x - 1 - i)) h
+    h1_is : (i j : ℕ) → i < x → j ≤ ly → r (h1 i j) ≡ H₁ i j
+    h1_is i j l h = let a = low_y in r_code 0 i j (omega arith) (omega (arith, h, a)) ∙ in_le j ly (H₁ i j) (V₂ (j - ly) (x - 1 - i)) h
 
-    v2_is : (i j : ℕ) → i ≤ ly → j < x → r (v2 i j) ≡ V2 i j
+    v2_is : (i j : ℕ) → i ≤ ly → j < x → r (v2 i j) ≡ V₂ i j
     v2_is i j l h =
         let a = low_y in
         let back : x - 1 - (x - 1 - j) ≡ j = omega (arith, h) in
-        r_code 0 (x - 1 - j) (ly + i) (omega arith) (omega (arith, l, a)) ∙ joined (H1 (x - 1 - j)) (λ m. V2 m (x - 1 - (x - 1 - j))) ly i (meet_x (x - 1 - j) (omega (arith, h))) ∙ ap (V2 i) back
+        r_code 0 (x - 1 - j) (ly + i) (omega arith) (omega (arith, l, a)) ∙ joined (H₁ (x - 1 - j)) (λ m. V₂ m (x - 1 - (x - 1 - j))) ly i (meet_x (x - 1 - j) (omega (arith, h))) ∙ ap (V₂ i) back
 
-    h2_is : (i j : ℕ) → i < y → j ≤ lx → r (h2 i j) ≡ H2 i j
+    h2_is : (i j : ℕ) → i < y → j ≤ lx → r (h2 i j) ≡ H₂ i j
     h2_is i j l h =
         let a = low_x in
         let back : y - 1 - (y - 1 - i) ≡ i = omega (arith, l) in
-        r_code 1 (y - 1 - i) (lx + j) (omega arith) (omega (arith, h, a)) ∙ joined (λ m. V1 m (y - 1 - i)) (H2 (y - 1 - (y - 1 - i))) lx j (meet_y (y - 1 - i) (omega (arith, l))) ∙ ap (λ k. H2 k j) back
+        r_code 1 (y - 1 - i) (lx + j) (omega arith) (omega (arith, h, a)) ∙ joined (λ m. V₁ m (y - 1 - i)) (H₂ (y - 1 - (y - 1 - i))) lx j (meet_y (y - 1 - i) (omega (arith, l))) ∙ ap (λ k. H₂ k j) back
 
     abbrev pub from : ℕ → ℕ
-    from k = cond (nat_lt k x) (H1 (x - 1 - k) 0) (V1 0 (k - x))
+    from k = cond (nat_lt k x) (H₁ (x - 1 - k) 0) (V₁ 0 (k - x))
 
     abbrev pub to : ℕ → ℕ
-    to k = cond (nat_lt k x) (V2 ly k) (H2 (x + y - 1 - k) lx)
+    to k = cond (nat_lt k x) (V₂ ly k) (H₂ (x + y - 1 - k) lx)
 
     from_is : (k : ℕ) → k < n → r (base k) ≡ from k
     from_is k l =
         ⊎_elim
-        (λ p. ap r (base_x k p) ∙ h1_is (x - 1 - k) 0 (omega (arith, p)) (omega arith) ∙ sym (in_lt k x (H1 (x - 1 - k) 0) (V1 0 (k - x)) p))
-        (λ p. ap r (base_y k p) ∙ v1_is 0 (k - x) (omega arith) (omega (arith, p, l)) ∙ sym (out_lt k x (H1 (x - 1 - k) 0) (V1 0 (k - x)) p))
+        (λ p. ap r (base_x k p) ∙ h1_is (x - 1 - k) 0 (omega (arith, p)) (omega arith) ∙ sym (in_lt k x (H₁ (x - 1 - k) 0) (V₁ 0 (k - x)) p))
+        (λ p. ap r (base_y k p) ∙ v1_is 0 (k - x) (omega arith) (omega (arith, p, l)) ∙ sym (out_lt k x (H₁ (x - 1 - k) 0) (V₁ 0 (k - x)) p))
         (below_or k x)
 
     to_is : (k : ℕ) → k < n → r (final k) ≡ to k
     to_is k l =
         ⊎_elim
-        (λ p. ap r (final_x k p) ∙ v2_is ly k (omega arith) p ∙ sym (in_lt k x (V2 ly k) (H2 (x + y - 1 - k) lx) p))
+        (λ p. ap r (final_x k p) ∙ v2_is ly k (omega arith) p ∙ sym (in_lt k x (V₂ ly k) (H₂ (x + y - 1 - k) lx) p))
         (λ p. ap r (final_y k p) ∙ ap (λ i. r (code 1 i (lx + lx))) (let t : k - x ≡ y - 1 - (x + y - 1 - k) = omega (arith, p, l) in t) ∙ h2_is (x + y - 1 - k) lx (omega (arith, p, l)) (omega arith)
-        ∙ sym (out_lt k x (V2 ly k) (H2 (x + y - 1 - k) lx) p))
+        ∙ sym (out_lt k x (V₂ ly k) (H₂ (x + y - 1 - k) lx) p))
         (below_or k x)
 
     module _ (m a b delta free : ℕ) (numbers : AreSkeinNumbers m a b delta) (s : Bool) (rest : List Node) (ok : All IsNode rest) where
@@ -298,7 +296,7 @@ module _ (x y : ℕ) (few_x : x ≤ 8) (few_y : y ≤ 8) where
       hook over = if over then b else a
 
       abbrev pub pair : List Node
-      pair = crossing_nodes (straight s) (hook s) V1 H1 x y ++ crossing_nodes (straight (not s)) (hook (not s)) V2 H2 y x
+      pair = crossing_nodes (straight s) (hook s) V₁ H₁ x y ++ crossing_nodes (straight (not s)) (hook (not s)) V₂ H₂ y x
 
       abbrev both_steps : List Step
       both_steps = steps (straight s) (hook s) (straight (not s)) (hook (not s))
@@ -314,8 +312,8 @@ module _ (x y : ℕ) (few_x : x ≤ 8) (few_y : y ≤ 8) where
           let next = names_after name one_steps in
           ap (rename r) (step_nodes-append name one_steps (two_steps ++ []))
           ∙ rename-append r (step_nodes name one_steps) (step_nodes next (two_steps ++ []))
-          ∙ ap₂ (λ us vs. us ++ vs) (crossing_renamed r (straight s) (hook s) v1 h1 V1 H1 name 0 x y (fits_1 (straight s) (hook s) (straight (not s)) (hook (not s))) v1_is h1_is)
-          (ap (λ us. rename r (step_nodes next us)) (append-nil two_steps) ∙ crossing_renamed r (straight (not s)) (hook (not s)) v2 h2 V2 H2 next 0 y x (fits_2 (straight s) (hook s) (straight (not s)) (hook (not s))) v2_is h2_is)
+          ∙ ap₂ (λ us vs. us ++ vs) (crossing_renamed r (straight s) (hook s) v1 h1 V₁ H₁ name 0 x y (fits_1 (straight s) (hook s) (straight (not s)) (hook (not s))) v1_is h1_is)
+          (ap (λ us. rename r (step_nodes next us)) (append-nil two_steps) ∙ crossing_renamed r (straight (not s)) (hook (not s)) v2 h2 V₂ H₂ next 0 y x (fits_2 (straight s) (hook s) (straight (not s)) (hook (not s))) v2_is h2_is)
 
       arcs_are : rename r (step_nodes name (passes final 0 n)) ≡ arcs_of (arcs_between from to 0 n)
       arcs_are = passes_arcs r base final from to name n from_is to_is 0 n (omega arith) (λ k l. name_top k)

@@ -1,8 +1,6 @@
 -- Three bundles that cross one another, at names that are written out: both sides of the third move are runs of steps. Strand i of a
 -- bundle has at its m-th edge, counted from below, the number 8 (32 i + m), and 1 or 2 more in the second and the third bundle; on the
 -- other side of the move inner edges have 4 more.
---
--- Others cite: code, star, bit, base, one, name, old_run, new_run, sides_agree, old_* and new_* of the three crossings.
 use Rattle.std.proofs.Common.{◌≡◌, ◌≢◌, ℕ, ◌+◌, ◌-◌, ◌*◌, ◌<◌, ◌≤◌, ◌&&◌, ◌⊎◌, inl, inr, nat_lt, true, false, cond, List, ◌++◌, refl, sym, ap, ◌∙◌, arith, ⊎_elim}
 use Rattle.std.proofs.lemmas.Bool.Decides.{nat_tests}
 use Rattle.strand_words.specs.Words.{top}

@@ -1,6 +1,4 @@
 -- Two bundles that cross and cross back are pulled apart, at any names: both crossings as they stand.
---
--- Others cite: runs_exchanged, value_of_same, turned_times, bundle_bigon.
 use Rattle.std.proofs.Common.{◌≡◌, ℕ, zero, suc, ◌+◌, ◌-◌, ◌<◌, ◌≤◌, ◌==◌, List, [], ◌∷◌, ◌++◌, refl, sym, ap, ap₂, ◌∙◌, arith, All, append-nil, append_assoc}
 use Rattle.std.specs.Set.{is_member}
 use Rattle.std.proofs.lemmas.List.Elements.{All-append, All-nil}

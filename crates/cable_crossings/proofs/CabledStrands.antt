@@ -1,6 +1,4 @@
 -- A cabled bigon counts as the strands of both edges, also where an edge has none.
---
--- Others cite: cabled_strands, ends_twice.
 use Rattle.std.proofs.Common.{◌≡◌, ℕ, zero, suc, ◌+◌, ◌≤◌, ◌⊎◌, inl, inr, ⊎_elim, List, [], ◌∷◌, ◌++◌, length, reverse, refl, sym, ap, ap₂, ◌∙◌, arith, All, subst, append-nil}
 use Rattle.std.specs.List.{zip}
 use Rattle.std.proofs.lemmas.List.{length-reverse}

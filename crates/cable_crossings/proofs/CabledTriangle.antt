@@ -1,7 +1,5 @@
 -- Three cabled crossings round a triangle count as the same crossings behind the third move. The bundles of the triangle's inner edges
 -- have no box: their names at one end are those at the other, in the other order.
---
--- Others cite: three_times, turned_at, Bundles, cabled_triangle.
 use Rattle.std.proofs.Common.{◌≡◌, ℕ, ◌+◌, ◌-◌, ◌<◌, ◌≤◌, ◌⊎◌, Bool, if◌then◌else◌, List, ◌++◌, length, reverse, slice_index, sym, ap, ap₂, ◌∙◌, arith, All, append_assoc}
 use Rattle.std.proofs.lemmas.List.{get_or-reverse}
 use Rattle.std.proofs.lemmas.List.Elements.{All-append}

@@ -7,8 +7,6 @@
 --     crossing_steps x y v h place rows columns    the steps, from a place on
 --     Follows                                      the names behind the crossing
 --     IsLongName, AreLongNames                     a name that the crossing gives; no two of them are equal
---
--- Others cite: crossing_tops, crossing_follows, crossing_names, crossing_distinct, crossing_spells, crossing_renamed, crossing_ok.
 use Rattle.std.proofs.Common.{◌≡◌, ◌≢◌, ℕ, zero, suc, ◌+◌, ◌-◌, ◌<◌, ◌≤◌, ◌==◌, ◌⊎◌, inl, inr, Bool, true, List, [], ◌∷◌, map, refl, sym, ap, ap₂, ◌∙◌, arith, ⊎_elim, All, subst}
 use Rattle.std.specs.List.{range_with_len, zip}
 use Rattle.std.specs.Set.{is_member}

@@ -1,6 +1,4 @@
 -- A bundle that meets no strand goes through two crossings.
---
--- Others cite: through_twice.
 use Rattle.std.proofs.Common.{◌≡◌, ◌≢◌, ℕ, zero, suc, ◌+◌, ◌*◌, ◌≤◌, ◌==◌, ◌||◌, Bool, true, false, cond, List, [], ◌∷◌, ◌++◌, map, length, reverse, refl, sym, ap, ap₂, ◌∙◌, arith, ⊎_elim, All}
 use Rattle.std.specs.List.{zip}
 use Rattle.std.specs.Set.{is_member}

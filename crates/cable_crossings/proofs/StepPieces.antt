@@ -1,7 +1,5 @@
 -- A run of steps on n strands as a piece: how often its names stand. So steps that spell one word count alike at any names that
 -- stand twice.
---
--- Others cite: All-first, All-second, tops_times, AllTop, IsRun, run_from, runs_anywhere.
 use Rattle.std.proofs.Common.{◌≡◌, ◌≢◌, ℕ, zero, suc, ◌+◌, ◌*◌, ◌<◌, ◌≤◌, ◌==◌, ◌||◌, ◌⊎◌, inl, inr, Bool, true, false, cond, List, [], ◌∷◌, ◌++◌, map, refl, sym, ap, ap₂, ◌∙◌, arith, ⊎_elim, All, subst, get_or}
 use Rattle.std.specs.Set.{is_member}
 use Rattle.std.proofs.lemmas.Bool.{cases_Bool, eqb-true, eq-eqb, or_cases, cases_eq}

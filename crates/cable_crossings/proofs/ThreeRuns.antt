@@ -1,6 +1,4 @@
 -- Three runs of steps, one after the other, are a run, where their names are apart.
---
--- Others cite: three_runs, three_nodes, three_names.
 use Rattle.std.proofs.Common.{◌≡◌, ◌≢◌, ℕ, ◌<◌, ◌==◌, ◌⊎◌, true, List, ◌++◌, sym, ap, ap₂, ◌∙◌, ⊎_elim, subst}
 use Rattle.std.specs.Set.{is_member}
 use Rattle.std.proofs.lemmas.Bool.{or_cases}

@@ -1,6 +1,4 @@
 -- Strands that go straight through are arcs.
---
--- Others cite: zip_contains, same_arcs, turned_arcs, through_arcs.
 use Rattle.std.proofs.Common.{◌≡◌, ℕ, zero, suc, ◌+◌, ◌-◌, ◌^◌, ◌%◌, ◌<◌, ◌≤◌, ◌==◌, ◌⊎◌, inl, inr, nat_lt, true, false, List, [], ◌∷◌, ◌++◌, map, length, reverse, slice_index, Contains, refl, sym, ap, ◌∙◌, arith, ⊎_elim, All, subst, length-append}
 use Rattle.std.specs.List.{zip, AllPass}
 use Rattle.std.specs.Set.{is_member}

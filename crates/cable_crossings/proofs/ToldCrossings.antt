@@ -1,7 +1,5 @@
 -- A cabled crossing told from any of its slots: a quarter turn makes the second slot the first and exchanges the weights. Each is a
 -- crossing of bundles, at names that its four bundles of ends bound.
---
--- Others cite: IsTold, retold, turned, four_summed, told_from.
 use Rattle.std.proofs.Common.{◌≡◌, ℕ, zero, suc, ◌+◌, ◌-◌, ◌*◌, ◌^◌, ◌%◌, ◌<◌, ◌==◌, cond, List, [], ◌∷◌, ◌++◌, map, length, reverse, slice_index, refl, sym, ap, ap₂, ◌∙◌, arith, All, subst}
 use Rattle.std.specs.List.{range_with_len, zip}
 use Rattle.std.specs.Set.{is_member}

@@ -1,6 +1,4 @@
 -- The third move of three bundles at any names: the numbers that are written out are read as names of the crossings.
---
--- Others cite: Meets, bundle_triangle.
 use Rattle.std.proofs.Common.{◌≡◌, ℕ, zero, suc, ◌+◌, ◌-◌, ◌/◌, ◌%◌, ◌<◌, ◌≤◌, ◌==◌, ◌⊎◌, inl, inr, nat_lt, nat_le, Bool, true, false, if◌then◌else◌, cond, List, ◌++◌, map, refl, sym, ap, ap₂, ◌∙◌, arith, ⊎_elim, All, subst}
 use Rattle.std.proofs.lemmas.Bool.Decides.{nat_tests}
 use Rattle.state_sums.specs.LocalSums.{rename, AreSkeinNumbers}
@@ -19,21 +17,21 @@ use Rattle.cable_crossings.proofs.StepPieces.{runs_anywhere}
 use Rattle.cable_crossings.proofs.ThreeRuns.{three_nodes}
 
 -- The names of the six crossings meet: the strands' inner edges, and their ends on both sides of the move.
-pub record Meets (x y z : ℕ) (V1 H1 V2 H2 V3 H3 W1 K1 W2 K2 W3 K3 : ℕ → ℕ → ℕ) : Type 0 where
-  pub old_x : (i : ℕ) → i < x → H1 i (long y) ≡ H2 i 0
-  pub old_y : (c : ℕ) → c < y → V1 (long x) c ≡ H3 (y - 1 - c) 0
-  pub old_z : (c : ℕ) → c < z → V2 (long x) c ≡ V3 0 c
-  pub new_x : (i : ℕ) → i < x → K2 i (long z) ≡ K3 i 0
-  pub new_y : (c : ℕ) → c < y → K1 (y - 1 - c) (long z) ≡ W3 0 c
-  pub new_z : (c : ℕ) → c < z → W1 (long y) c ≡ W2 0 c
-  pub start_x : (i : ℕ) → i < x → H1 i 0 ≡ K2 i 0
-  pub start_y : (c : ℕ) → c < y → V1 0 c ≡ K1 (y - 1 - c) 0
-  pub start_z : (c : ℕ) → c < z → V2 0 c ≡ W1 0 c
-  pub end_x : (i : ℕ) → i < x → H2 i (long z) ≡ K3 i (long y)
-  pub end_y : (c : ℕ) → c < y → H3 (y - 1 - c) (long z) ≡ W3 (long x) c
-  pub end_z : (c : ℕ) → c < z → V3 (long y) c ≡ W2 (long x) c
+pub record Meets (x y z : ℕ) (V₁ H₁ V₂ H₂ V₃ H₃ W₁ K₁ W₂ K₂ W₃ K₃ : ℕ → ℕ → ℕ) : Type 0 where
+  pub old_x : (i : ℕ) → i < x → H₁ i (long y) ≡ H₂ i 0
+  pub old_y : (c : ℕ) → c < y → V₁ (long x) c ≡ H₃ (y - 1 - c) 0
+  pub old_z : (c : ℕ) → c < z → V₂ (long x) c ≡ V₃ 0 c
+  pub new_x : (i : ℕ) → i < x → K₂ i (long z) ≡ K₃ i 0
+  pub new_y : (c : ℕ) → c < y → K₁ (y - 1 - c) (long z) ≡ W₃ 0 c
+  pub new_z : (c : ℕ) → c < z → W₁ (long y) c ≡ W₂ 0 c
+  pub start_x : (i : ℕ) → i < x → H₁ i 0 ≡ K₂ i 0
+  pub start_y : (c : ℕ) → c < y → V₁ 0 c ≡ K₁ (y - 1 - c) 0
+  pub start_z : (c : ℕ) → c < z → V₂ 0 c ≡ W₁ 0 c
+  pub end_x : (i : ℕ) → i < x → H₂ i (long z) ≡ K₃ i (long y)
+  pub end_y : (c : ℕ) → c < y → H₃ (y - 1 - c) (long z) ≡ W₃ (long x) c
+  pub end_z : (c : ℕ) → c < z → V₃ (long y) c ≡ W₂ (long x) c
 
-module _ (x y z : ℕ) (few_x : x ≤ 8) (few_y : y ≤ 8) (few_z : z ≤ 8) (V1 H1 V2 H2 V3 H3 W1 K1 W2 K2 W3 K3 : ℕ → ℕ → ℕ) (meets : Meets x y z V1 H1 V2 H2 V3 H3 W1 K1 W2 K2 W3 K3) where
+module _ (x y z : ℕ) (few_x : x ≤ 8) (few_y : y ≤ 8) (few_z : z ≤ 8) (V₁ H₁ V₂ H₂ V₃ H₃ W₁ K₁ W₂ K₂ W₃ K₃ : ℕ → ℕ → ℕ) (meets : Meets x y z V₁ H₁ V₂ H₂ V₃ H₃ W₁ K₁ W₂ K₂ W₃ K₃) where
   abbrev lx : ℕ
   lx = long x
 
@@ -64,12 +62,12 @@ module _ (x y z : ℕ) (few_x : x ≤ 8) (few_y : y ≤ 8) (few_z : z ≤ 8) (V1
   -- ---- the name of edge m of strand i, by tags
   abbrev pick : ℕ → ℕ → ℕ → ℕ
   pick tag i m =
-      cond (tag == 0) (cond (nat_le m ly) (H1 i m) (H2 i (m - ly)))
-      (cond (tag == 1) (cond (nat_le m lx) (V1 m i) (H3 (y - 1 - i) (m - lx)))
-      (cond (tag == 2) (cond (nat_le m lx) (V2 m i) (V3 (m - lx) i))
-      (cond (tag == 4) (cond (nat_le m lz) (K2 i m) (K3 i (m - lz)))
-      (cond (tag == 5) (cond (nat_le m lz) (K1 (y - 1 - i) m) (W3 (m - lz) i))
-      (cond (nat_le m ly) (W1 m i) (W2 (m - ly) i))))))
+      cond (tag == 0) (cond (nat_le m ly) (H₁ i m) (H₂ i (m - ly)))
+      (cond (tag == 1) (cond (nat_le m lx) (V₁ m i) (H₃ (y - 1 - i) (m - lx)))
+      (cond (tag == 2) (cond (nat_le m lx) (V₂ m i) (V₃ (m - lx) i))
+      (cond (tag == 4) (cond (nat_le m lz) (K₂ i m) (K₃ i (m - lz)))
+      (cond (tag == 5) (cond (nat_le m lz) (K₁ (y - 1 - i) m) (W₃ (m - lz) i))
+      (cond (nat_le m ly) (W₁ m i) (W₂ (m - ly) i))))))
 
   abbrev r : ℕ → ℕ
   r w = pick (w % 8) (w / 8 / 32) (w / 8 % 32)
@@ -94,26 +92,26 @@ module _ (x y z : ℕ) (few_x : x ≤ 8) (few_y : y ≤ 8) (few_z : z ≤ 8) (V1
   joined f g at (suc j) e = let s : at + suc j - at ≡ suc j = omega arith in out_le (at + suc j) at (f (at + suc j)) (g (at + suc j - at)) (omega arith) ∙ ap g s
 
   -- ---- the crossings before the move
-  v1_is : (i j : ℕ) → i ≤ lx → j < y → r (v1 x y z few_x few_y few_z i j) ≡ V1 i j
-  v1_is i j l h = let a = low_x in r_code 1 j i (omega arith) (omega (arith, l, a)) ∙ in_le i lx (V1 i j) (H3 (y - 1 - j) (i - lx)) l
+  v1_is : (i j : ℕ) → i ≤ lx → j < y → r (v1 x y z few_x few_y few_z i j) ≡ V₁ i j
+  v1_is i j l h = let a = low_x in r_code 1 j i (omega arith) (omega (arith, l, a)) ∙ in_le i lx (V₁ i j) (H₃ (y - 1 - j) (i - lx)) l
 
-  h1_is : (i j : ℕ) → i < x → j ≤ ly → r (h1 x y z few_x few_y few_z i j) ≡ H1 i j
-  h1_is i j l h = let a = low_y in r_code 0 i j (omega arith) (omega (arith, h, a)) ∙ in_le j ly (H1 i j) (H2 i (j - ly)) h
+  h1_is : (i j : ℕ) → i < x → j ≤ ly → r (h1 x y z few_x few_y few_z i j) ≡ H₁ i j
+  h1_is i j l h = let a = low_y in r_code 0 i j (omega arith) (omega (arith, h, a)) ∙ in_le j ly (H₁ i j) (H₂ i (j - ly)) h
 
-  v2_is : (i j : ℕ) → i ≤ lx → j < z → r (v2 x y z few_x few_y few_z i j) ≡ V2 i j
-  v2_is i j l h = let a = low_x in r_code 2 j i (omega arith) (omega (arith, l, a)) ∙ in_le i lx (V2 i j) (V3 (i - lx) j) l
+  v2_is : (i j : ℕ) → i ≤ lx → j < z → r (v2 x y z few_x few_y few_z i j) ≡ V₂ i j
+  v2_is i j l h = let a = low_x in r_code 2 j i (omega arith) (omega (arith, l, a)) ∙ in_le i lx (V₂ i j) (V₃ (i - lx) j) l
 
-  h2_is : (i j : ℕ) → i < x → j ≤ lz → r (h2 x y z few_x few_y few_z i j) ≡ H2 i j
-  h2_is i j l h = let a = low_y in let b = low_z in r_code 0 i (ly + j) (omega arith) (omega (arith, h, a, b)) ∙ joined (H1 i) (H2 i) ly j (meets.old_x i l)
+  h2_is : (i j : ℕ) → i < x → j ≤ lz → r (h2 x y z few_x few_y few_z i j) ≡ H₂ i j
+  h2_is i j l h = let a = low_y in let b = low_z in r_code 0 i (ly + j) (omega arith) (omega (arith, h, a, b)) ∙ joined (H₁ i) (H₂ i) ly j (meets.old_x i l)
 
-  v3_is : (i j : ℕ) → i ≤ ly → j < z → r (v3 x y z few_x few_y few_z i j) ≡ V3 i j
-  v3_is i j l h = let a = low_x in let b = low_y in r_code 2 j (lx + i) (omega arith) (omega (arith, l, a, b)) ∙ joined (λ m. V2 m j) (λ m. V3 m j) lx i (meets.old_z j h)
+  v3_is : (i j : ℕ) → i ≤ ly → j < z → r (v3 x y z few_x few_y few_z i j) ≡ V₃ i j
+  v3_is i j l h = let a = low_x in let b = low_y in r_code 2 j (lx + i) (omega arith) (omega (arith, l, a, b)) ∙ joined (λ m. V₂ m j) (λ m. V₃ m j) lx i (meets.old_z j h)
 
-  h3_is : (i j : ℕ) → i < y → j ≤ lz → r (h3 x y z few_x few_y few_z i j) ≡ H3 i j
+  h3_is : (i j : ℕ) → i < y → j ≤ lz → r (h3 x y z few_x few_y few_z i j) ≡ H₃ i j
   h3_is i j l h =
       let a = low_x in let b = low_z in
       let back : y - 1 - (y - 1 - i) ≡ i = omega (arith, l) in
-      r_code 1 (y - 1 - i) (lx + j) (omega arith) (omega (arith, h, a, b)) ∙ joined (λ m. V1 m (y - 1 - i)) (H3 (y - 1 - (y - 1 - i))) lx j (meets.old_y (y - 1 - i) (omega (arith, l))) ∙ ap (λ k. H3 k j) back
+      r_code 1 (y - 1 - i) (lx + j) (omega arith) (omega (arith, h, a, b)) ∙ joined (λ m. V₁ m (y - 1 - i)) (H₃ (y - 1 - (y - 1 - i))) lx j (meets.old_y (y - 1 - i) (omega (arith, l))) ∙ ap (λ k. H₃ k j) back
 
   -- ---- and behind it: the first edge and the last are those from before
   starred : (tag i m last goal : ℕ) → tag < 4 → m ≤ last → last < 32 → (m ≡ 0 → pick tag i m ≡ goal) → (m ≡ last → pick tag i m ≡ goal) → (0 < m → m < last → pick (tag + 4) i m ≡ goal) → r (star tag i m last) ≡ goal
@@ -140,61 +138,61 @@ module _ (x y z : ℕ) (few_x : x ≤ 8) (few_y : y ≤ 8) (few_z : z ≤ 8) (V1
       ends m last l = elim (nat_lt m last) as (λ b. nat_lt m last ≡ b → (m ≡ last) ⊎ (m < last)) [ true ↦ (λ t. inr (grind (arith, nat_tests, t))) | false ↦ (λ t. inl (grind (arith, nat_tests, t, l))) ] refl
 
   -- what the tags 0, 1 and 2 pick at the first edge and the last
-  pick_start_x : (i m : ℕ) → i < x → m ≡ 0 → pick 0 i m ≡ K2 i 0
-  pick_start_x i m l e = ap (pick 0 i) e ∙ in_le 0 ly (H1 i 0) (H2 i (0 - ly)) (omega arith) ∙ meets.start_x i l
+  pick_start_x : (i m : ℕ) → i < x → m ≡ 0 → pick 0 i m ≡ K₂ i 0
+  pick_start_x i m l e = ap (pick 0 i) e ∙ in_le 0 ly (H₁ i 0) (H₂ i (0 - ly)) (omega arith) ∙ meets.start_x i l
 
-  pick_end_x : (i m : ℕ) → i < x → m ≡ ly + lz → pick 0 i m ≡ K3 i ly
-  pick_end_x i m l e = ap (pick 0 i) e ∙ joined (H1 i) (H2 i) ly lz (meets.old_x i l) ∙ meets.end_x i l
+  pick_end_x : (i m : ℕ) → i < x → m ≡ ly + lz → pick 0 i m ≡ K₃ i ly
+  pick_end_x i m l e = ap (pick 0 i) e ∙ joined (H₁ i) (H₂ i) ly lz (meets.old_x i l) ∙ meets.end_x i l
 
-  pick_start_y : (c m : ℕ) → c < y → m ≡ 0 → pick 1 c m ≡ K1 (y - 1 - c) 0
-  pick_start_y c m l e = ap (pick 1 c) e ∙ in_le 0 lx (V1 0 c) (H3 (y - 1 - c) (0 - lx)) (omega arith) ∙ meets.start_y c l
+  pick_start_y : (c m : ℕ) → c < y → m ≡ 0 → pick 1 c m ≡ K₁ (y - 1 - c) 0
+  pick_start_y c m l e = ap (pick 1 c) e ∙ in_le 0 lx (V₁ 0 c) (H₃ (y - 1 - c) (0 - lx)) (omega arith) ∙ meets.start_y c l
 
-  pick_end_y : (c m : ℕ) → c < y → m ≡ lx + lz → pick 1 c m ≡ W3 lx c
-  pick_end_y c m l e = ap (pick 1 c) e ∙ joined (λ k. V1 k c) (H3 (y - 1 - c)) lx lz (meets.old_y c l) ∙ meets.end_y c l
+  pick_end_y : (c m : ℕ) → c < y → m ≡ lx + lz → pick 1 c m ≡ W₃ lx c
+  pick_end_y c m l e = ap (pick 1 c) e ∙ joined (λ k. V₁ k c) (H₃ (y - 1 - c)) lx lz (meets.old_y c l) ∙ meets.end_y c l
 
-  pick_start_z : (c m : ℕ) → c < z → m ≡ 0 → pick 2 c m ≡ W1 0 c
-  pick_start_z c m l e = ap (pick 2 c) e ∙ in_le 0 lx (V2 0 c) (V3 (0 - lx) c) (omega arith) ∙ meets.start_z c l
+  pick_start_z : (c m : ℕ) → c < z → m ≡ 0 → pick 2 c m ≡ W₁ 0 c
+  pick_start_z c m l e = ap (pick 2 c) e ∙ in_le 0 lx (V₂ 0 c) (V₃ (0 - lx) c) (omega arith) ∙ meets.start_z c l
 
-  pick_end_z : (c m : ℕ) → c < z → m ≡ lx + ly → pick 2 c m ≡ W2 lx c
-  pick_end_z c m l e = ap (pick 2 c) e ∙ joined (λ k. V2 k c) (λ k. V3 k c) lx ly (meets.old_z c l) ∙ meets.end_z c l
+  pick_end_z : (c m : ℕ) → c < z → m ≡ lx + ly → pick 2 c m ≡ W₂ lx c
+  pick_end_z c m l e = ap (pick 2 c) e ∙ joined (λ k. V₂ k c) (λ k. V₃ k c) lx ly (meets.old_z c l) ∙ meets.end_z c l
 
-  w1_is : (i j : ℕ) → i ≤ ly → j < z → r (w1 x y z few_x few_y few_z i j) ≡ W1 i j
+  w1_is : (i j : ℕ) → i ≤ ly → j < z → r (w1 x y z few_x few_y few_z i j) ≡ W₁ i j
   w1_is i j l h =
       let a = low_x in let b = low_y in let s = some_x in
-      starred 2 j i (lx + ly) (W1 i j) (omega arith) (omega (arith, l)) (omega (arith, a, b))
-      (λ e. pick_start_z j i h e ∙ ap (λ k. W1 k j) (sym e)) (λ e. absurd (omega (arith, e, l, s))) (λ p q. in_le i ly (W1 i j) (W2 (i - ly) j) l)
+      starred 2 j i (lx + ly) (W₁ i j) (omega arith) (omega (arith, l)) (omega (arith, a, b))
+      (λ e. pick_start_z j i h e ∙ ap (λ k. W₁ k j) (sym e)) (λ e. absurd (omega (arith, e, l, s))) (λ p q. in_le i ly (W₁ i j) (W₂ (i - ly) j) l)
 
-  k1_is : (i j : ℕ) → i < y → j ≤ lz → r (k1 x y z few_x few_y few_z i j) ≡ K1 i j
+  k1_is : (i j : ℕ) → i < y → j ≤ lz → r (k1 x y z few_x few_y few_z i j) ≡ K₁ i j
   k1_is i j l h =
       let a = low_x in let b = low_z in let s = some_x in
       let c = y - 1 - i in
       let back : y - 1 - c ≡ i = omega (arith, l) in
-      starred 1 c j (lx + lz) (K1 i j) (omega arith) (omega (arith, h)) (omega (arith, a, b))
-      (λ e. pick_start_y c j (omega (arith, l)) e ∙ ap₂ K1 back (sym e)) (λ e. absurd (omega (arith, e, h, s))) (λ p q. in_le j lz (K1 (y - 1 - c) j) (W3 (j - lz) c) h ∙ ap (λ k. K1 k j) back)
+      starred 1 c j (lx + lz) (K₁ i j) (omega arith) (omega (arith, h)) (omega (arith, a, b))
+      (λ e. pick_start_y c j (omega (arith, l)) e ∙ ap₂ K₁ back (sym e)) (λ e. absurd (omega (arith, e, h, s))) (λ p q. in_le j lz (K₁ (y - 1 - c) j) (W₃ (j - lz) c) h ∙ ap (λ k. K₁ k j) back)
 
-  w2_is : (i j : ℕ) → i ≤ lx → j < z → r (w2 x y z few_x few_y few_z i j) ≡ W2 i j
+  w2_is : (i j : ℕ) → i ≤ lx → j < z → r (w2 x y z few_x few_y few_z i j) ≡ W₂ i j
   w2_is i j l h =
       let a = low_x in let b = low_y in let s = some_y in
-      starred 2 j (ly + i) (lx + ly) (W2 i j) (omega arith) (omega (arith, l)) (omega (arith, a, b))
-      (λ e. absurd (omega (arith, e, s))) (λ e. pick_end_z j (ly + i) h e ∙ ap (λ k. W2 k j) (let t : lx ≡ i = omega (arith, e) in t)) (λ p q. joined (λ m. W1 m j) (λ m. W2 m j) ly i (meets.new_z j h))
+      starred 2 j (ly + i) (lx + ly) (W₂ i j) (omega arith) (omega (arith, l)) (omega (arith, a, b))
+      (λ e. absurd (omega (arith, e, s))) (λ e. pick_end_z j (ly + i) h e ∙ ap (λ k. W₂ k j) (let t : lx ≡ i = omega (arith, e) in t)) (λ p q. joined (λ m. W₁ m j) (λ m. W₂ m j) ly i (meets.new_z j h))
 
-  k2_is : (i j : ℕ) → i < x → j ≤ lz → r (k2 x y z few_x few_y few_z i j) ≡ K2 i j
+  k2_is : (i j : ℕ) → i < x → j ≤ lz → r (k2 x y z few_x few_y few_z i j) ≡ K₂ i j
   k2_is i j l h =
       let a = low_y in let b = low_z in let s = some_y in
-      starred 0 i j (ly + lz) (K2 i j) (omega arith) (omega (arith, h)) (omega (arith, a, b))
-      (λ e. pick_start_x i j l e ∙ ap (K2 i) (sym e)) (λ e. absurd (omega (arith, e, h, s))) (λ p q. in_le j lz (K2 i j) (K3 i (j - lz)) h)
+      starred 0 i j (ly + lz) (K₂ i j) (omega arith) (omega (arith, h)) (omega (arith, a, b))
+      (λ e. pick_start_x i j l e ∙ ap (K₂ i) (sym e)) (λ e. absurd (omega (arith, e, h, s))) (λ p q. in_le j lz (K₂ i j) (K₃ i (j - lz)) h)
 
-  w3_is : (i j : ℕ) → i ≤ lx → j < y → r (w3 x y z few_x few_y few_z i j) ≡ W3 i j
+  w3_is : (i j : ℕ) → i ≤ lx → j < y → r (w3 x y z few_x few_y few_z i j) ≡ W₃ i j
   w3_is i j l h =
       let a = low_x in let b = low_z in let s = some_z in
-      starred 1 j (lz + i) (lx + lz) (W3 i j) (omega arith) (omega (arith, l)) (omega (arith, a, b))
-      (λ e. absurd (omega (arith, e, s))) (λ e. pick_end_y j (lz + i) h e ∙ ap (λ k. W3 k j) (let t : lx ≡ i = omega (arith, e) in t)) (λ p q. joined (K1 (y - 1 - j)) (λ m. W3 m j) lz i (meets.new_y j h))
+      starred 1 j (lz + i) (lx + lz) (W₃ i j) (omega arith) (omega (arith, l)) (omega (arith, a, b))
+      (λ e. absurd (omega (arith, e, s))) (λ e. pick_end_y j (lz + i) h e ∙ ap (λ k. W₃ k j) (let t : lx ≡ i = omega (arith, e) in t)) (λ p q. joined (K₁ (y - 1 - j)) (λ m. W₃ m j) lz i (meets.new_y j h))
 
-  k3_is : (i j : ℕ) → i < x → j ≤ ly → r (k3 x y z few_x few_y few_z i j) ≡ K3 i j
+  k3_is : (i j : ℕ) → i < x → j ≤ ly → r (k3 x y z few_x few_y few_z i j) ≡ K₃ i j
   k3_is i j l h =
       let a = low_y in let b = low_z in let s = some_z in
-      starred 0 i (lz + j) (ly + lz) (K3 i j) (omega arith) (omega (arith, h)) (omega (arith, a, b))
-      (λ e. absurd (omega (arith, e, s))) (λ e. pick_end_x i (lz + j) l e ∙ ap (K3 i) (let t : ly ≡ j = omega (arith, e) in t)) (λ p q. joined (K2 i) (K3 i) lz j (meets.new_x i l))
+      starred 0 i (lz + j) (ly + lz) (K₃ i j) (omega arith) (omega (arith, h)) (omega (arith, a, b))
+      (λ e. absurd (omega (arith, e, s))) (λ e. pick_end_x i (lz + j) l e ∙ ap (K₃ i) (let t : ly ≡ j = omega (arith, e) in t)) (λ p q. joined (K₂ i) (K₃ i) lz j (meets.new_x i l))
 
   module _ (m a b delta free : ℕ) (numbers : AreSkeinNumbers m a b delta) (s t u : Bool) (one_above : (s ≡ t) ⊎ (t ≡ u)) (rest : List Node) (ok : All IsNode rest) where
     -- the weights of a crossing
@@ -205,10 +203,10 @@ module _ (x y z : ℕ) (few_x : x ≤ 8) (few_y : y ≤ 8) (few_z : z ≤ 8) (V1
     hook over = if over then b else a
 
     abbrev pub old_three : List Node
-    old_three = crossing_nodes (straight s) (hook s) V1 H1 x y ++ (crossing_nodes (straight t) (hook t) V2 H2 x z ++ crossing_nodes (straight u) (hook u) V3 H3 y z)
+    old_three = crossing_nodes (straight s) (hook s) V₁ H₁ x y ++ (crossing_nodes (straight t) (hook t) V₂ H₂ x z ++ crossing_nodes (straight u) (hook u) V₃ H₃ y z)
 
     abbrev pub new_three : List Node
-    new_three = crossing_nodes (straight u) (hook u) W1 K1 y z ++ (crossing_nodes (straight t) (hook t) W2 K2 x z ++ crossing_nodes (straight s) (hook s) W3 K3 x y)
+    new_three = crossing_nodes (straight u) (hook u) W₁ K₁ y z ++ (crossing_nodes (straight t) (hook t) W₂ K₂ x z ++ crossing_nodes (straight s) (hook s) W₃ K₃ x y)
 
     abbrev the_name : ℕ → ℕ
     the_name = name x y z few_x few_y few_z
@@ -254,22 +252,22 @@ module _ (x y z : ℕ) (few_x : x ≤ 8) (few_y : y ≤ 8) (few_z : z ≤ 8) (V1
     old_are =
         three_nodes r the_name before_1 before_2
         before_3
-        (crossing_nodes (straight s) (hook s) V1 H1 x y) (crossing_nodes (straight t) (hook t) V2 H2 x z) (crossing_nodes (straight u) (hook u) V3 H3 y z)
-        (crossing_renamed r (straight s) (hook s) (v1 x y z few_x few_y few_z) (h1 x y z few_x few_y few_z) V1 H1 the_name 0 x y (fits_1 x y z few_x few_y few_z (straight s) (hook s) (straight t) (hook t) (straight u) (hook u)) v1_is h1_is)
-        (crossing_renamed r (straight t) (hook t) (v2 x y z few_x few_y few_z) (h2 x y z few_x few_y few_z) V2 H2 named_1 (0 + y) x z
+        (crossing_nodes (straight s) (hook s) V₁ H₁ x y) (crossing_nodes (straight t) (hook t) V₂ H₂ x z) (crossing_nodes (straight u) (hook u) V₃ H₃ y z)
+        (crossing_renamed r (straight s) (hook s) (v1 x y z few_x few_y few_z) (h1 x y z few_x few_y few_z) V₁ H₁ the_name 0 x y (fits_1 x y z few_x few_y few_z (straight s) (hook s) (straight t) (hook t) (straight u) (hook u)) v1_is h1_is)
+        (crossing_renamed r (straight t) (hook t) (v2 x y z few_x few_y few_z) (h2 x y z few_x few_y few_z) V₂ H₂ named_1 (0 + y) x z
         (fits_2 x y z few_x few_y few_z (straight s) (hook s) (straight t) (hook t) (straight u) (hook u)) v2_is h2_is)
-        (crossing_renamed r (straight u) (hook u) (v3 x y z few_x few_y few_z) (h3 x y z few_x few_y few_z) V3 H3 named_2 0 y z
+        (crossing_renamed r (straight u) (hook u) (v3 x y z few_x few_y few_z) (h3 x y z few_x few_y few_z) V₃ H₃ named_2 0 y z
         (fits_3 x y z few_x few_y few_z (straight s) (hook s) (straight t) (hook t) (straight u) (hook u)) v3_is h3_is)
 
     new_are : rename r (step_nodes the_name others) ≡ new_three
     new_are =
         three_nodes r the_name behind_1 behind_2
         behind_3
-        (crossing_nodes (straight u) (hook u) W1 K1 y z) (crossing_nodes (straight t) (hook t) W2 K2 x z) (crossing_nodes (straight s) (hook s) W3 K3 x y)
-        (crossing_renamed r (straight u) (hook u) (w1 x y z few_x few_y few_z) (k1 x y z few_x few_y few_z) W1 K1 the_name (0 + x) y z (fits_4 x y z few_x few_y few_z (straight s) (hook s) (straight t) (hook t) (straight u) (hook u)) w1_is k1_is)
-        (crossing_renamed r (straight t) (hook t) (w2 x y z few_x few_y few_z) (k2 x y z few_x few_y few_z) W2 K2 renamed_1 0 x z
+        (crossing_nodes (straight u) (hook u) W₁ K₁ y z) (crossing_nodes (straight t) (hook t) W₂ K₂ x z) (crossing_nodes (straight s) (hook s) W₃ K₃ x y)
+        (crossing_renamed r (straight u) (hook u) (w1 x y z few_x few_y few_z) (k1 x y z few_x few_y few_z) W₁ K₁ the_name (0 + x) y z (fits_4 x y z few_x few_y few_z (straight s) (hook s) (straight t) (hook t) (straight u) (hook u)) w1_is k1_is)
+        (crossing_renamed r (straight t) (hook t) (w2 x y z few_x few_y few_z) (k2 x y z few_x few_y few_z) W₂ K₂ renamed_1 0 x z
         (fits_5 x y z few_x few_y few_z (straight s) (hook s) (straight t) (hook t) (straight u) (hook u)) w2_is k2_is)
-        (crossing_renamed r (straight s) (hook s) (w3 x y z few_x few_y few_z) (k3 x y z few_x few_y few_z) W3 K3 renamed_2 (0 + z) x y
+        (crossing_renamed r (straight s) (hook s) (w3 x y z few_x few_y few_z) (k3 x y z few_x few_y few_z) W₃ K₃ renamed_2 (0 + z) x y
         (fits_6 x y z few_x few_y few_z (straight s) (hook s) (straight t) (hook t) (straight u) (hook u)) w3_is k3_is)
 
     -- THE THIRD MOVE OF BUNDLES, AT ANY NAMES

@@ -1,7 +1,5 @@
 -- Lemmas of move_results, TriangleComponents, that it does not export: the labels behind R3 are contracted to those before it. They go
 -- from here once they are public there.
---
--- Others cite: triangle_contracts, after_members.
 use Rattle.std.proofs.Common.{◌≡◌, ℕ, ◌+◌, ◌<◌, false, ◌==◌, List, [], ◌∷◌, slice_index, Some, refl, sym, ap, arith, ⊎_elim, subst, Contains}
 use Rattle.std.specs.List.{AllByRecursion}
 use Rattle.pd_reader.specs.declared.item.Item.{Item}

@@ -1,6 +1,4 @@
 -- Three crossings of a cable come to its front; and what corners tell of a crossing's four bundles.
---
--- Others cite: out_d, out_f, at_c, at_d, at_f, first, second, third, others, three_pulled, by_corner, corner_times, three_reversed.
 use Rattle.std.proofs.Common.{◌≡◌, ℕ, zero, suc, ◌+◌, ◌*◌, ◌%◌, ◌<◌, ◌==◌, false, List, [], ◌∷◌, ◌++◌, length, slice_index, Some, refl, sym, ap, ◌∙◌, arith, All, append_assoc}
 use Rattle.std.specs.List.Sorted.{IsPermutation}
 use Rattle.std.specs.Set.{is_member}

@@ -1,6 +1,4 @@
 -- R2 keeps the coloured value: what an accepted step gives.
---
--- Others cite: coloured_push.
 use Rattle.std.proofs.Common.{◌≡◌, ◌≢◌, ℕ, Bool, true, false, not, ◌==◌, ◌||◌, cond, List, Ok, length, sym, ap, ◌∙◌, arith, subst}
 use Rattle.std.specs.Set.{is_member}
 use Rattle.std.proofs.lemmas.Bool.{eq-eqb}

@@ -1,6 +1,4 @@
 -- R3 keeps the coloured value; and where no box lies inside a step, its inner edges have none.
---
--- Others cite: coloured_slide, no_anchor, first_anchor_named.
 use Rattle.std.proofs.Common.{◌≡◌, ℕ, zero, suc, ◌+◌, ◌-◌, ◌%◌, ◌<◌, ◌≤◌, ◌==◌, ◌&&◌, ◌||◌, not, nat_le, Bool, true, false, cond, List, [], ◌∷◌, length, slice_index, Some, None, Ok, sym, ap, ◌∙◌, arith, ⊎_elim, subst}
 use Rattle.std.specs.List.{AllByRecursion, find}
 use Rattle.std.specs.Set.{is_member}

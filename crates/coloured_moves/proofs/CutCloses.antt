@@ -1,7 +1,5 @@
 -- The strands of a cut edge close: arcs between those at the second place of the old label and at the first place of the new one
 -- give the new names' places the old names.
---
--- Others cite: old_names, closed, closed_new, closed_other, cut_arcs, cut_closes.
 use Rattle.std.proofs.Common.{◌≡◌, ◌≢◌, ℕ, zero, suc, ◌+◌, ◌-◌, ◌*◌, ◌/◌, ◌%◌, ◌<◌, ◌≤◌, ◌==◌, ◌&&◌, ◌⊎◌, inl, inr, not, nat_lt, Bool, true, false, cond, List, [], ◌∷◌, ◌++◌, map, length, reverse, slice_index, Contains, refl, sym, ap, ap₂, ◌∙◌, arith, ⊎_elim, All, subst}
 use Rattle.std.specs.List.{AllByRecursion, zip, range_with_len}
 use Rattle.std.specs.Set.{is_member}

@@ -1,6 +1,4 @@
 -- The second place of an edge comes behind its first, so cut items fit.
---
--- Others cite: first_before_second, fits, at_places-compose.
 use Rattle.std.proofs.Common.{◌⊎◌, inl, inr, ltb, Some, None, unwrap_or, ◌≡◌, ◌≢◌, ℕ, zero, suc, ◌+◌, ◌<◌, ◌≤◌, ◌==◌, ◌||◌, Bool, true, false, cond, not, List, [], ◌∷◌, length, slice_index, refl, sym, ap, ap₂, ◌∙◌, arith, ⊎_elim, subst}
 use Rattle.std.specs.List.{range_with_len}
 use Rattle.std.specs.Set.{is_member}

@@ -1,7 +1,5 @@
 -- Stubs of a diagram whose slots were rewritten: where a label's second stub now comes first, its places are exchanged. With the names of
 -- exchanged places the cable of the diagram has at each slot the names that the stub there had before.
---
--- Others cite: second_first, exchanged_stubs, stubs_once, stubs_halved, crossing_labels-stubbed, halved_stubbed, crossing_stubbed, slot_half.
 use Rattle.std.proofs.Common.{◌≡◌, ◌≢◌, ℕ, zero, suc, ◌+◌, ◌*◌, ◌%◌, ◌≤◌, ◌==◌, ◌||◌, Bool, true, false, cond, List, [], ◌∷◌, ◌++◌, map, length, Some, refl, sym, ap, ap₂, ◌∙◌, arith, ⊎_elim, subst, append_assoc}
 use Rattle.std.specs.List.{AllByRecursion}
 use Rattle.std.specs.Set.{is_member}

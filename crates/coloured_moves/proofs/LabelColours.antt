@@ -1,6 +1,4 @@
 -- Labels of one component have one colour; so have opposite slots of a crossing. And the strands at stubs.
---
--- Others cite: joined_colour, slot_label, opposite_colours, long_stub, opposite_stub, loop_count_labels, counts_same, counts.
 use Rattle.std.proofs.Common.{◌≡◌, ◌≢◌, ℕ, ◌+◌, ◌-◌, ◌%◌, ◌<◌, ◌==◌, nat_le, Bool, true, false, cond, List, [], ◌∷◌, length, reverse, slice_index, count_by, Some, refl, sym, ap, ap₂, ◌∙◌, arith, ⊎_elim, subst}
 use Rattle.std.specs.List.{AllByRecursion}
 use Rattle.std.specs.Set.{is_member}

@@ -1,6 +1,4 @@
 -- Items behind others, and their nodes.
---
--- Others cite: as_net-append, passed_all, cable_nodes-append, loop_count-append, seen_all, no_boxes, nodes_at, anywhere, arcs_of-append, zip-append.
 use Rattle.std.proofs.Common.{◌≡◌, ℕ, ◌+◌, ◌==◌, ◌&&◌, ◌||◌, ◌⊎◌, inl, inr, not, Bool, true, false, cond, List, [], ◌∷◌, ◌++◌, map, length, filter, refl, sym, ap, ap₂, ◌∙◌, arith, ⊎_elim, append_assoc}
 use Rattle.std.specs.List.{AllByRecursion, zip, range_with_len}
 use Rattle.std.specs.Set.{is_member}

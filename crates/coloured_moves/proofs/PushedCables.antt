@@ -1,6 +1,4 @@
 -- R2 keeps the coloured value.
---
--- Others cite: unboxed_second, pushed_coloured.
 use Rattle.std.proofs.Common.{◌≡◌, ◌≢◌, ℕ, zero, suc, ◌+◌, ◌*◌, ◌/◌, ◌^◌, ◌<◌, ◌≤◌, ◌==◌, ◌||◌, ◌⊎◌, inl, inr, not, Bool, true, false, cond, List, [], ◌∷◌, ◌++◌, map, length, reverse, slice_index, refl, sym, ap, ap₂, ◌∙◌, arith, ⊎_elim, All, subst, append-nil, append_assoc, length-append}
 use Rattle.std.specs.List.{AllByRecursion, zip, range_with_len}
 use Rattle.std.specs.Set.{is_member}

@@ -1,7 +1,5 @@
 -- A diagram that is cut at the second place of an edge: a new label stands there, and the items keep their cable, where the
 -- strands of the new label at its first place are those of the old one at its second.
---
--- Others cite: Fit, Seen, recut, recut_loops.
 use Rattle.std.proofs.Common.{◌≡◌, ◌≢◌, ℕ, zero, suc, ◌+◌, ◌<◌, ◌≤◌, ◌==◌, ◌&&◌, ◌||◌, not, Bool, true, false, cond, List, [], ◌∷◌, ◌++◌, map, length, filter, refl, sym, ap, ap₂, ◌∙◌, arith, ⊎_elim, append-nil, subst}
 use Rattle.std.specs.List.{AllByRecursion, range_with_len}
 use Rattle.std.specs.Set.{is_member}

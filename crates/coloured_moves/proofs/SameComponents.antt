@@ -1,6 +1,4 @@
 -- Labels that are contracted keep their component.
---
--- Others cite: contracted_least, contracted_colour, contracted_boxed, new_unboxed.
 use Rattle.std.proofs.Common.{◌≡◌, ℕ, zero, suc, [], ◌∷◌, Contains, ◌<◌, ◌==◌, ◌&&◌, nat_le, ◌-◌, Bool, true, false, List, count_by, slice_index, sym, ap, ap₂, ◌∙◌, arith}
 use Rattle.std.specs.List.{AllByRecursion}
 use Rattle.std.specs.Set.{is_member}

@@ -1,7 +1,5 @@
 -- R3 keeps the coloured value, where no inner edge of the triangle has a box: in the result the places of some labels are exchanged; with
 -- the names of these, its cable is the old one but for three crossings, and these count as before the move.
---
--- Others cite: slid_coloured.
 use Rattle.std.proofs.Common.{◌≡◌, ◌≢◌, ℕ, suc, ◌+◌, ◌%◌, ◌<◌, ◌≤◌, ◌==◌, ◌&&◌, ◌⊎◌, inl, inr, not, Bool, true, false, cond, List, [], ◌∷◌, ◌++◌, map, length, reverse, slice_index, Some, refl, sym, ap, ap₂, ◌∙◌, arith, ⊎_elim, All, subst, append-nil}
 use Rattle.std.specs.List.{AllByRecursion}
 use Rattle.std.specs.List.Sorted.{IsPermutation}

@@ -1,6 +1,4 @@
 -- R3 on the stubs of a diagram: the result by labels is the result by stubs, halved; and each stub stands once before and behind the move.
---
--- Others cite: SlidStubs (hereB, thereB, beyondB, D, ..), each by its name below.
 use Rattle.std.proofs.Common.{◌≡◌, ◌≢◌, ℕ, zero, suc, ◌+◌, ◌-◌, ◌%◌, ◌<◌, ◌≤◌, ◌==◌, true, false, cond, List, [], ◌∷◌, map, slice_index, Some, refl, sym, ap, ap₂, ◌∙◌, arith}
 use Rattle.std.specs.List.{AllByRecursion}
 use Rattle.std.specs.Set.{is_member}

@@ -7,8 +7,6 @@
 --     at_stub strands w          the names at a stub
 --     stub_nodes ..              the nodes of the crossings, but those with a number in `gone`, and of the loops
 --     first_boxes, first_labels, boxes_of      the boxes in the order of a cable, and by their labels
---
--- Others cite: split, pulled, moved_out, others_stay, anew_same, some_ungrouped, ungrouped_boxes, first_labels_times.
 use Rattle.std.proofs.Common.{◌≡◌, ℕ, zero, suc, ◌+◌, ◌*◌, ◌/◌, ◌%◌, ◌<◌, ◌≤◌, ◌==◌, ◌&&◌, ◌||◌, not, Bool, true, false, cond, List, [], ◌∷◌, ◌++◌, map, length, slice_index, Some, refl, sym, ap, ap₂, ◌∙◌, arith, ⊎_elim, subst, append_assoc}
 use Rattle.std.specs.List.{AllByRecursion, filter, range_with_len}
 use Rattle.std.specs.List.Sorted.{IsPermutation}

@@ -1,7 +1,5 @@
 -- The boxes of a cable, apart from its crossings: their groups and their order do not matter, and where a label's places are exchanged its
 -- box is turned by half a turn, which a projector does not tell.
---
--- Others cite: box_ok, boxes_ok, ungrouped_value, turned_boxes, names_permuted.
 use Rattle.std.proofs.Common.{◌≡◌, ℕ, ◌+◌, ◌<◌, ◌≤◌, ◌==◌, Bool, true, false, cond, List, [], ◌∷◌, ◌++◌, map, length, refl, sym, ap, ◌∙◌, arith, ⊎_elim, All, subst, length-append}
 use Rattle.std.specs.List.{AllByRecursion}
 use Rattle.std.specs.List.Sorted.{IsPermutation}

@@ -1,6 +1,4 @@
 -- What planar_check counts, by the rotation system of the places.
---
--- Others cite: counted, few_faces, flat_diagram.
 use Rattle.std.proofs.Common.{◌≡◌, ◌≤◌, ◌↔◌, ℕ, zero, suc, ◌+◌, ◌*◌, ◌/◌, ◌%◌, ◌<◌, ◌==◌, Bool, true, false, ltb, List, [], ◌∷◌, ◌++◌, map, length, slice_index, count_by, refl, sym, ap, ◌∙◌, subst, arith, ⊎_elim, Contains}
 use Rattle.std.specs.List.{range_with_len}
 use Rattle.std.specs.Set.{is_member, distinct_count}

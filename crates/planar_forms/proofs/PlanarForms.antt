@@ -1,6 +1,4 @@
 -- Planarity by the pairing of the places: F = N + 2k.
---
--- Others cite: planar_form.
 use Rattle.std.proofs.Common.{arith, length}
 use Rattle.planar_check.specs.Places.{place_labels, other_place}
 use Rattle.rotation_parts.proofs.PairForms.{pair_form}

@@ -1,6 +1,4 @@
 -- Every accepted step keeps a diagram planar.
---
--- Others cite: moves_planar, never_refused, always_planar, not_refused.
 use Rattle.std.proofs.Common.{◌≡◌, ◌==◌, Bool, cond, List, Some, None, Ok, Err, refl, ap, ⊎_elim, sym, ◌∙◌}
 use Rattle.std.specs.Set.{is_member}
 use Rattle.std.proofs.lemmas.Bool.{eq-eqb, cases_Bool}

@@ -1,6 +1,4 @@
 -- The places of crossings that are written anew, where they stay; and the corners of a crossing.
---
--- Others cite: anew_long, anew_label, four_cases, moved_four.
 use Rattle.std.proofs.Common.{◌≡◌, ◌≢◌, ◌≤◌, ◌<◌, ltb, ℕ, ◌+◌, ◌-◌, ◌/◌, ◌==◌, true, false, cond, List, [], ◌∷◌, ◌++◌, length, slice_index, refl, sym, ap, ◌∙◌, subst, arith, ⊎_elim}
 use Rattle.std.specs.List.{AllByRecursion}
 use Rattle.std.proofs.lemmas.Bool.{eq-eqb, eqb-true, cases_Bool, ltb-true}

@@ -1,6 +1,4 @@
 -- A Loop has no place.
---
--- Others cite: blow_up_planar.
 use Rattle.std.proofs.Common.{◌≡◌, ℕ, ltb, cond, List, [], ◌∷◌, ◌++◌, length, refl, sym, ap, ◌∙◌, subst}
 use Rattle.pd_reader.specs.declared.item.Item.{Item}
 use Rattle.pd_reader.specs.declared.item.Item.TheVariants as item

@@ -1,6 +1,4 @@
 -- A curl on an edge keeps a diagram planar.
---
--- Others cite: curl_planar, reordered_cycles, reordered_pieces.
 use Rattle.std.proofs.Common.{◌≡◌, ◌≢◌, ◌≤◌, ◌<◌, ◌↔◌, ℕ, ◌+◌, ◌*◌, ◌==◌, true, false, cond, not, ltb, List, [], ◌∷◌, ◌++◌, length, slice_index, refl, sym, ap, ◌∙◌, subst, arith, ⊎_elim, append-nil, Ok}
 use Rattle.std.specs.List.{range_with_len}
 use Rattle.std.specs.Set.{is_member}

@@ -1,6 +1,4 @@
 -- The first place of a label has it.
---
--- Others cite: first_place_has.
 use Rattle.std.proofs.Common.{◌≡◌, ◌<◌, ℕ, ◌==◌, true, cond, List, length, slice_index, Some, None, unwrap_or, sym, ap, subst}
 use Rattle.std.specs.Set.{is_member}
 use Rattle.std.proofs.lemmas.Bool.{lt-ltb}

@@ -1,6 +1,4 @@
 -- The crossings that stay where others go: their numbers, and the places that they have before and after.
---
--- Others cite: kept_numbers, crossing_count, count_labels, kept_at, kept_has, rank_at, kept_label, kept_long, one_less, all_kept, last_number, label_at, closed_labels.
 use Rattle.std.proofs.Common.{◌≡◌, ◌≤◌, ◌<◌, ℕ, zero, suc, ◌+◌, ◌-◌, ◌*◌, ◌/◌, ◌%◌, ◌==◌, Bool, true, false, cond, not, ltb, List, [], ◌∷◌, ◌++◌, map, length, slice_index, Some, refl, sym, ap, ◌∙◌, subst, arith, ⊎_elim, append-nil}
 use Rattle.std.specs.List.{AllByRecursion}
 use Rattle.std.specs.Set.{is_member}

@@ -1,6 +1,4 @@
 -- No move answers that its result is not planar: that is looked at after it.
---
--- Others cite: plain_move.
 use Rattle.std.proofs.Common.{◌≡◌, ℕ, ltb, Bool, true, false, cond, not, ◌||◌, ◌==◌, List, [], ◌∷◌, ◌++◌, length, Option, Some, None, pos, Ok, Err, sym, subst, ⊎_elim}
 use Rattle.std.specs.List.{find}
 use Rattle.std.proofs.lemmas.Bool.{cases_Bool}

@@ -1,6 +1,4 @@
 -- Crossings go, and what is left of their system, after cuts, is that of the result: if F = m + 2k there, the result is planar.
---
--- Others cite: kept_places, in_kept, out_of_kept, Removal, removed_planar.
 use Rattle.std.proofs.Common.{◌≡◌, ◌<◌, ℕ, ◌+◌, ◌*◌, ◌/◌, ◌%◌, ◌==◌, Bool, true, false, not, List, filter, length, slice_index, sym, ap, ◌∙◌, arith}
 use Rattle.std.specs.List.{range_with_len}
 use Rattle.std.specs.Set.{is_member}

@@ -1,6 +1,4 @@
 -- A crossing that goes is cut in two: from slot k on, the slots k + 1 and k + 2 stay together, and k + 3 and k.
---
--- Others cite: corner_place, one_smoothed, two_smoothed, SmoothedOne, SmoothedTwo.
 use Rattle.std.proofs.Common.{◌≡◌, ◌≢◌, ◌≤◌, ◌<◌, ℕ, ◌+◌, ◌-◌, ◌*◌, ◌/◌, ◌%◌, ◌==◌, true, false, List, [], ◌∷◌, length, slice_index, Some, refl, ap, ◌∙◌, arith, ⊎_elim}
 use Rattle.std.specs.List.{range_with_len}
 use Rattle.std.specs.Set.{is_member}

@@ -1,6 +1,4 @@
 -- The results of CurlUndo and R2Undo are planar: each crossing that goes is smoothed.
---
--- Others cite: curl_undo_planar, pull_planar.
 use Rattle.std.proofs.Common.{◌≡◌, ◌≢◌, ◌⊎◌, ◌≤◌, ◌<◌, ltb, ℕ, ◌+◌, ◌/◌, ◌%◌, ◌==◌, ◌&&◌, cond, not, List, [], ◌∷◌, length, slice_index, Some, sym, ap, ◌∙◌, subst, arith, ⊎_elim, Contains}
 use Rattle.std.specs.List.{find, filter}
 use Rattle.std.specs.Set.{is_member}

@@ -1,7 +1,5 @@
 -- An exchange of two names: a cycle more where they lie in one cycle, else one less. With both steps taken away, the paths that
 -- begin behind the two names end in these, each in another one: either each in its own name, or crosswise.
---
--- Others cite: exchange_splits, exchange_merges.
 use Rattle.std.proofs.Common.{◌≡◌, ◌≢◌, ◌⊎◌, ℕ, zero, suc, ◌+◌, ◌==◌, true, false, cond, List, [], ◌∷◌, map, refl, sym, ap, ◌∙◌, subst, arith, ⊎_elim, inl, inr}
 use Rattle.std.specs.Fn.{iterate}
 use Rattle.std.specs.List.{AllPass}

@@ -1,6 +1,4 @@
 -- The genus is never negative: edge by edge, each is an exchange that splits a face or joins two.
---
--- Others cite: genus, without_edge, one_more_edge, follower_permutes, turn_within, OneEdge.
 use Rattle.std.proofs.Common.{◌≡◌, ◌≢◌, ◌⊎◌, ◌↔◌, ℕ, ◌+◌, ◌*◌, ◌≤◌, ◌==◌, true, List, [], ◌∷◌, ◌++◌, length, refl, ap, ◌∙◌, subst, arith, ⊎_elim, inl, inr}
 use Rattle.std.specs.Set.{is_member}
 use Rattle.std.proofs.lemmas.Bool.{eq-eqb, eqb-true, cases_Bool}

@@ -1,6 +1,4 @@
 -- Graphs between which walks go to and fro have as many parts.
---
--- Others cite: matched_graphs.
 use Rattle.std.proofs.Common.{◌≡◌, ℕ, ◌==◌, List, map, sym, ap, ◌∙◌, arith}
 use Rattle.std.specs.Set.{is_member, distinct_count}
 use Rattle.graph_parts.specs.Labels.{label_of, Agree}

@@ -1,6 +1,4 @@
 -- A rotation system under other names.
---
--- Others cite: renamed_counts.
 use Rattle.std.proofs.Common.{◌≡◌, ℕ, ◌==◌, true, List, sym, ap, ◌∙◌}
 use Rattle.std.specs.Set.{is_member}
 use Rattle.graph_parts.specs.Parts.{part_count}

@@ -1,6 +1,4 @@
 -- Flatness where the edges are given by a pairing: 2 (V + F) = n + 4k.
---
--- Others cite: pair_form, half, filter_member, member_filter, range_from.
 use Rattle.std.proofs.Common.{◌≡◌, ◌≤◌, ◌<◌, ℕ, zero, suc, ◌+◌, ◌*◌, ◌==◌, Bool, true, false, cond, not, ltb, List, [], ◌∷◌, ◌++◌, map, length, count_by, filter, refl, sym, ap, ◌∙◌, subst, arith, ⊎_elim}
 use Rattle.std.specs.List.{range_with_len}
 use Rattle.std.specs.Set.{is_member, distinct_count}

@@ -1,6 +1,4 @@
 -- Vertices of two names taken away one after another, while a mark on the names is kept: names that are paired have the same mark.
---
--- Others cite: with_vertices, AreVertices, HaveOneMark, Passed, passed_all, cut_form, reordered_flat.
 use Rattle.std.proofs.Common.{◌≡◌, ◌≢◌, ℕ, ◌+◌, ◌*◌, ◌==◌, Bool, true, false, cond, List, [], ◌∷◌, refl, sym, ap, ◌∙◌, subst, arith, ⊎_elim}
 use Rattle.std.specs.List.{range_with_len}
 use Rattle.std.specs.Set.{is_member}

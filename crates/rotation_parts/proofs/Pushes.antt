@@ -1,7 +1,5 @@
 -- One edge pushed over another: walks of the faces and pieces after it are walks of those before, where the steps from two places
 -- of one face are exchanged.
---
--- Others cite: push_counts.
 use Rattle.std.proofs.Common.{◌≡◌, ◌<◌, ℕ, ◌+◌, ◌==◌, true, false, cond, ltb, List, ◌∷◌, refl, sym, ap, ◌∙◌, subst, arith, ⊎_elim}
 use Rattle.std.specs.List.{range_with_len}
 use Rattle.std.specs.Set.{is_member}

@@ -1,6 +1,4 @@
 -- Graphs in which joined names become one have as many parts.
---
--- Others cite: retract, walks_along.
 use Rattle.std.proofs.Common.{◌≡◌, ℕ, ◌==◌, List, map, sym, ap, ◌∙◌, Contains}
 use Rattle.std.specs.Set.{is_member, distinct_count}
 use Rattle.graph_parts.specs.Labels.{label_of, Agree}

@@ -1,7 +1,5 @@
 -- A triangle's side slid over a vertex: a name of the triangle lies in another face afterwards; its old and its new face are told by the names
 -- that follow it.
---
--- Others cite: slide_counts.
 use Rattle.std.proofs.Common.{◌≡◌, ◌≢◌, ℕ, ◌==◌, true, cond, List, refl, sym, ap, ◌∙◌, subst, arith, ⊎_elim}
 use Rattle.std.specs.Set.{is_member}
 use Rattle.std.proofs.lemmas.Bool.{eq-eqb, eqb-true, cases_Bool}

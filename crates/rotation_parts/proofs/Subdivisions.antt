@@ -1,6 +1,4 @@
 -- A vertex of two names in an edge: walks after it are walks before, with its names sent to the ends of the edge.
---
--- Others cite: subdivision_counts.
 use Rattle.std.proofs.Common.{◌≡◌, ℕ, ◌==◌, true, false, cond, List, ◌∷◌, refl, sym, ap, ◌∙◌, subst, arith, ⊎_elim}
 use Rattle.std.specs.Set.{is_member}
 use Rattle.std.proofs.lemmas.Bool.{eq-eqb, eqb-true, cases_Bool, or_cases, or_left, or_right}
