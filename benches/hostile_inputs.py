@@ -20,12 +20,14 @@ TEXTS = {
     "net 41 2 5 --colors=2,2,2": "Net[Y[1,2,3],Y[3,2,1]]",
     "wrt 41 2 5 --framing=-1": TREFOIL,
     "moves 41 2 5": f"Moves[{TREFOIL},R2[1,3],R2Undo[4,5],Curl[1,+],BlowUp[-]]",
+    "moves 41 2 5 --colors=2": f"Moves[{TREFOIL},R2[1,3],R2Undo[4,5],Curl[1,+],BlowUp[-]]",
+    "moves 13 2 3 --framing=2,3": "Moves[PD[X[2,4,3,1],X[4,2,1,3]],Slide[1,2],R2[1,2]]",
     "braid 41 2 5": "BR[3,{1,-2,1,-2}]",
     "tv 41 2 5": "TV[F[1,2,3],F[1,5,6],F[2,4,6],F[3,4,5],T[1,2,3,4,5,6]]",
 }
-TOKENS = "PD Net Moves BR TV X Xp Y Loop R2 R2Undo R3 Curl CurlUndo BlowUp F T [ ] { } , - + 0 1 2 3 4 5 6 12 999999 1000000".split() + [" ", "\n"]
+TOKENS = "PD Net Moves BR TV X Xp Y Loop R2 R2Undo R3 Curl CurlUndo BlowUp Slide F T [ ] { } , - + 0 1 2 3 4 5 6 12 999999 1000000".split() + [" ", "\n"]
 BYTES = bytes(range(256))
-USUAL = b"0123456789,[]{}+- XLoopPDRCurl\n\x00\xff"
+USUAL = b"0123456789,[]{}+- XLoopPDRCurlSide\n\x00\xff"
 
 
 def random_bytes(draw, text):

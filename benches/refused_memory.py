@@ -62,6 +62,7 @@ int posix_memalign(void **to, size_t align, size_t size) {
 """
 
 TREFOIL = "PD[X[1,4,2,5],X[3,6,4,1],X[5,2,6,3]]"
+HOPF = "PD[X[2,4,3,1],X[4,2,1,3]]"
 CHAIN = "PD[X[1,6,2,5],X[6,3,5,2],X[3,8,4,7],X[8,1,7,4]]"
 TETRAHEDRA = "TV[F[1,2,3],F[1,5,6],F[2,4,6],F[3,4,5],T[1,2,3,4,5,6],T[1,2,3,4,5,6]]"
 
@@ -70,6 +71,8 @@ RUNS = [
     ("net 41 2 5 --colors=2,2,2", "Net[Y[1,2,3],Y[3,2,1]]"),
     ("wrt 41 2 5 --framing=0,0,0 --workers=2", CHAIN),
     ("moves 41 2 5", f"Moves[{TREFOIL},R2[1,3],R2Undo[4,5],Curl[1,+]]"),
+    ("moves 41 2 5 --colors=2", f"Moves[{TREFOIL},R2[1,3],R2Undo[4,5]]"),
+    ("moves 13 2 3 --framing=2,3", f"Moves[{HOPF},Slide[1,2]]"),
     ("braid 41 2 5", "BR[3,{1,-2,1,-2}]"),
     ("wrt 41 2 5 --even --framing=0,0,0 --workers=3", CHAIN),
     ("tv 41 2 5", TETRAHEDRA),

@@ -77,7 +77,7 @@ module _ (names ends left end_slots left_slots places : List ℕ) (h : IsSeam na
       let long = length-append names ends in
       first_place (λ y. slice_index (names ++ ends) i == y) (names ++ ends) i (omega (arith, long, l)) (eq-eqb (slice_index (names ++ ends) i) (slice_index (names ++ ends) i) refl)
       (λ k m. let a = get_front names ends i l in let b = get_front names ends k (omega (arith, m, l)) in
-      let up = increases names h.increasing k i m l in
+      let up = h.apart k i m l in
       grind (arith, nat_tests, a, b, up))
 
   ends_long : length end_slots ≡ length ends

@@ -4,11 +4,10 @@
 --     place_in names x                      the first place of x in the list
 --     AreOpenBehind names ends left         no name stands more than twice in both lists, and those that are open are left
 --     AreSlots names ends end_slots         the slots of the ends: each tells its name, and no two tell one name
---     IsSeam names ends left end_slots left_slots places
+--     IsSeam names ends left end_slots left_slots places      (names and what is left in any order)
 --                                           the slots of the ends and of the names that are left, and the place of each of the latter
-use Rattle.std.specs.Prelude.{◌≡◌, ℕ, ◌+◌, ◌<◌, ◌≤◌, ◌==◌, if◌then◌else◌, true, List, ◌++◌, map, length, slice_index}
+use Rattle.std.specs.Prelude.{◌≡◌, ◌≢◌, ℕ, ◌+◌, ◌<◌, ◌≤◌, ◌==◌, if◌then◌else◌, true, List, ◌++◌, map, length, slice_index}
 use Rattle.std.specs.List.{position_or_len, range_with_len}
-use Rattle.std.specs.List.Sorted.{IsStrictlyIncreasing}
 use Rattle.std.specs.Set.{is_member}
 use Rattle.list_lemmas.specs.Times.{times_in}
 use Rattle.arc_gluing.specs.Pairings.{AreOpen}
@@ -35,10 +34,9 @@ pub record IsSeam (names ends left end_slots left_slots places : List ℕ) : Typ
   pub few_names : length names ≤ 24
   pub few_ends : length ends ≤ 24
   pub few_left : length left ≤ 24
-  pub increasing : IsStrictlyIncreasing names
+  pub apart : (i k : ℕ) → i < k → k < length names → slice_index names i ≢ slice_index names k
   pub few : (x : ℕ) → times_in (names ++ ends) x ≤ 2
   pub left_open : AreOpen (names ++ ends) left
-  pub left_increasing : IsStrictlyIncreasing left
   pub ends_at : end_slots ≡ map (place_in (names ++ ends)) ends
   pub left_at : left_slots ≡ map (place_in (names ++ ends)) left
   pub placed : (k : ℕ) → k < length left → slice_index places (slice_index left_slots k) ≡ k

@@ -12,6 +12,12 @@ use Rattle.arc_gluing.proofs.Slots.{slots_are}
 use Rattle.arc_pairing.specs.Gluing.{Seam, glued_edges}
 use Rattle.arc_pairing.specs.Pairings.{IsShortPairing}
 
+-- What a gluing found, the partners and how many loops closed, is the gluing by parts.
+pub record IsGluing (seam : Seam) (old term found : List ℕ) (count : ℕ) : Type 0 where
+  pub paired : IsPairedBy (glued_edges seam old term) seam.outer found
+  pub partners : found ≡ partners_of (seam.inner ++ seam.ends) (glued_edges seam old term) seam.outer
+  pub closed : count ≡ closed_parts (seam.inner ++ seam.ends) (glued_edges seam old term) seam.outer
+
 module _ (inner ends outer end_slots outer_slots places : List ℕ) (h : IsSeam inner ends outer end_slots outer_slots places) where
   pub end_slots_small : (es : List ℕ) → es ≡ end_slots → (i : ℕ) → slice_index es i < 48
   end_slots_small es is i =
@@ -53,20 +59,20 @@ module _ (inner ends outer end_slots outer_slots places : List ℕ) (h : IsSeam 
     found_are found is = is ∙ ap (map (λ x. slice_index places (slice_index m2 x))) ls_are ∙ ap (λ m. map (λ x. slice_index places (m x)) outer_slots) same_mates
 
     -- THE PARTNERS FOUND ARE THE PAIRING
-    pub end_paired : (found : List ℕ) → found ≡ map (λ x. slice_index places (slice_index m2 x)) ls → IsPairedBy (glued_edges seam old term) seam.outer found
+    end_paired : (found : List ℕ) → found ≡ map (λ x. slice_index places (slice_index m2 x)) ls → IsPairedBy (glued_edges seam old term) seam.outer found
     end_paired found is =
         let P : Seam → Type 0 = λ s. IsPairedBy (glued_edges s old term) s.outer found in
         let Q : List ℕ → Type 0 = λ p. IsPairedBy (pair_edges inner old ++ pair_edges ends term) outer p in
         subst P view (subst Q (sym (found_are found is)) (paired inner ends outer end_slots outer_slots places old term h po.paired pt.paired lo2 lt2 (slice_index m1) old_at new_at))
 
-    pub end_partners : (found : List ℕ) → found ≡ map (λ x. slice_index places (slice_index m2 x)) ls → found ≡ partners_of (seam.inner ++ seam.ends) (glued_edges seam old term) seam.outer
+    end_partners : (found : List ℕ) → found ≡ map (λ x. slice_index places (slice_index m2 x)) ls → found ≡ partners_of (seam.inner ++ seam.ends) (glued_edges seam old term) seam.outer
     end_partners found is =
         found_are found is
         ∙ partners_are inner ends outer end_slots outer_slots places old term h po.paired pt.paired lo2 lt2 (slice_index m1) old_at new_at
         ∙ ap (λ s. partners_of (s.inner ++ s.ends) (glued_edges s old term) s.outer) view
 
     -- THE LOOPS FOUND ARE THE CLOSED PARTS
-    pub end_loops : (count : ℕ) → count ≡ loops_after (slice_index m1) (pairs_below es pairs (length pairs)) → count ≡ closed_parts (seam.inner ++ seam.ends) (glued_edges seam old term) seam.outer
+    end_loops : (count : ℕ) → count ≡ loops_after (slice_index m1) (pairs_below es pairs (length pairs)) → count ≡ closed_parts (seam.inner ++ seam.ends) (glued_edges seam old term) seam.outer
     end_loops count is =
         is ∙ ap (loops_after (slice_index m1)) joins
         ∙ loops inner ends outer end_slots outer_slots places old term h po.paired pt.paired lo2 lt2 (slice_index m1) old_at new_at
@@ -88,3 +94,7 @@ module _ (inner ends outer end_slots outer_slots places : List ℕ) (h : IsSeam 
           short = let w = p.whole in let v = ap (λ s. length s.outer) view in let f = h.few_left in omega (arith, w, v, f);
           paired = p.is_pairing;
         }
+
+    -- WHAT WAS FOUND IS THE GLUING
+    pub end_facts : (found : List ℕ) → found ≡ map (λ x. slice_index places (slice_index m2 x)) ls → (count : ℕ) → count ≡ loops_after (slice_index m1) (pairs_below es pairs (length pairs)) → IsGluing seam old term found count
+    end_facts found is count counted = record { paired = end_paired found is; partners = end_partners found is; closed = end_loops count counted }

@@ -77,11 +77,11 @@ module _ (all found : List ℕ) (h : AreOpen all found) where
         AreOnce-from_times found (λ x. let c = h.once x in grind (arith, nat_tests, c)) j k jl kl same
 
 -- THE FACTS OF A SEAM, from what its parts were made of
-pub made_seam : (names ends found inner last outer end_slots left_slots places : List ℕ) → length names ≤ 24 → length ends ≤ 24 → length found ≤ 24 → IsStrictlyIncreasing names →
-    ((x : ℕ) → times_in (names ++ ends) x ≤ 2) → AreOpen (names ++ ends) found → IsStrictlyIncreasing found → inner ≡ names → last ≡ ends → outer ≡ found →
+pub made_seam : (names ends found inner last outer end_slots left_slots places : List ℕ) → length names ≤ 24 → length ends ≤ 24 → length found ≤ 24 → ((i k : ℕ) → i < k → k < length names → slice_index names i ≢ slice_index names k) →
+    ((x : ℕ) → times_in (names ++ ends) x ≤ 2) → AreOpen (names ++ ends) found → inner ≡ names → last ≡ ends → outer ≡ found →
     end_slots ≡ map (place_in (names ++ ends)) ends → left_slots ≡ map (place_in (names ++ ends)) found →
     ((i : ℕ) → i < length left_slots → slice_index places (slice_index left_slots i) ≡ i) → IsSeam inner last outer end_slots left_slots places
-made_seam names ends found inner last outer end_slots left_slots places few_names few_ends few_left up few open_ up_left a b d es ls placed =
+made_seam names ends found inner last outer end_slots left_slots places few_names few_ends few_left apart few open_ a b d es ls placed =
     let P : List ℕ → Type 0 = λ xs. IsSeam xs last outer end_slots left_slots places in
     let Q : List ℕ → Type 0 = λ xs. IsSeam names xs outer end_slots left_slots places in
     let R : List ℕ → Type 0 = λ xs. IsSeam names ends xs end_slots left_slots places in
@@ -89,10 +89,9 @@ made_seam names ends found inner last outer end_slots left_slots places few_name
       few_names = few_names;
       few_ends = few_ends;
       few_left = few_left;
-      increasing = up;
+      apart = apart;
       few = few;
       left_open = open_;
-      left_increasing = up_left;
       ends_at = es;
       left_at = ls;
       placed = λ k l. placed k (let n = long (names ++ ends) found open_ left_slots ls in omega (arith, n, l));

@@ -1,6 +1,6 @@
 //! Seams: where the points of a pairing and the ends of a node glued to it go.
 
-ghost use Rattle.std.specs.Prelude.{◌≡◌, ◌<◌, ◌≤◌, ◌==◌, ◌++◌, ◌↔◌, ℕ, length, map, slice_index, IfOk};
+ghost use Rattle.std.specs.Prelude.{◌≡◌, ◌≢◌, ◌<◌, ◌≤◌, ◌==◌, ◌++◌, ◌↔◌, ℕ, length, map, slice_index, IfOk};
 ghost use Rattle.std.specs.List.{filter};
 ghost use Rattle.std.specs.List.Sorted.{IsStrictlyIncreasing};
 ghost use Rattle.list_lemmas.specs.Times.{times_in};
@@ -163,32 +163,47 @@ impl Seam {
                 ends: single.len() as u32,
             });
         }
+        Ok(Seam::keeping(names, ends, single.as_slice()))
+    }
+
+    /// The seam of a pairing whose points have these names and a node whose ends have those, where what is left is
+    /// given in an order of its own: each name that stands once in both together, once. Of the names 9, 2 and the
+    /// ends 2, 4 it can leave 9, 4, so that 4 takes the place of 2. It takes no memory.
+    pub fn keeping(names: &[u32], ends: &[u32], outer: &[u32]) -> Seam
+        requires few_names { length names.now ≤ MOST_POINTS }
+        requires few_ends { length ends.now ≤ MOST_POINTS }
+        requires few_outer { length outer.now ≤ MOST_POINTS }
+        requires apart { (i k : ℕ) → i < k → k < length names.now → slice_index names.now i ≢ slice_index names.now k }
+        requires few { (x : ℕ) → times_in (names.now ++ ends.now) x ≤ 2 }
+        requires left { AreOpen (names.now ++ ends.now) outer.now }
+        ensures { result ≡ record { inner = names.now; ends = ends.now; outer = outer.now } }
+    {
+        let all = joined(names, ends);
         let end_slots = slots_of(all.as_slice(), ends);
-        let outer_slots = slots_of(all.as_slice(), single.as_slice());
+        let outer_slots = slots_of(all.as_slice(), outer);
         let places = places_of(outer_slots.as_slice());
-        Ok(Seam {
+        Seam {
             inner: copied(names),
             ends: copied(ends),
-            outer: copied(single.as_slice()),
+            outer: copied(outer),
             end_slots,
             outer_slots,
             places,
-        })
+        }
     }
 
-    /// The names that are left, increasing. It takes no memory.
+    /// The names that are left: increasing where `of` made the seam. It takes no memory.
     pub fn into_names(self) -> ArrayVec<u32, MOST_POINTS>
         ensures { result.items ≡ self.outer }
     {
         self.outer
     }
 
-    /// The names that are left, increasing: those that stand once. It takes no memory.
+    /// The names that are left, those that stand once: increasing where `of` made the seam. It takes no memory.
     #[inline]
     pub fn names(&self) -> &[u32]
         ensures value { result.now ≡ self.now.outer }
         ensures left { AreOpen (self.now.inner ++ self.now.ends) self.now.outer }
-        ensures ascending { IsStrictlyIncreasing self.now.outer }
         ensures few { length self.now.outer ≤ MOST_POINTS }
     {
         self.outer.as_slice()

@@ -16,6 +16,7 @@ use Rattle.cables.specs.CableNodes.{crossing_cable}
 use Rattle.cables.proofs.GridNames.{crossing-times}
 use Rattle.cables.proofs.NameCounts.{times_of-append, times-reverse}
 use Rattle.cable_crossings.specs.Laws.{BigonAtSlotsLaw}
+use Rattle.cable_crossings.proofs.NameCodes.{in_lt, out_lt, below_or}
 use Rattle.cable_crossings.proofs.BundleBigon.{arcs_between}
 use Rattle.cable_crossings.proofs.BundlePair.{bundle_pair, from, to}
 use Rattle.cable_crossings.proofs.BundleTurns.{runs_exchanged}
@@ -52,15 +53,6 @@ module _ (m a b delta : ℕ) (numbers : AreSkeinNumbers m a b delta) (s : Bool) 
 
   abbrev g : ℕ → ℕ
   g = to x y few_x few_y told_first.v told_first.h told_second.v told_second.h meet_x meet_y
-
-  in_lt : (k i p q : ℕ) → k < i → cond (nat_lt k i) p q ≡ p
-  in_lt k i p q l = grind (arith, nat_tests, l)
-
-  out_lt : (k i p q : ℕ) → i ≤ k → cond (nat_lt k i) p q ≡ q
-  out_lt k i p q l = grind (arith, nat_tests, l)
-
-  below_or : (k i : ℕ) → (k < i) ⊎ (i ≤ k)
-  below_or k i = elim (nat_lt k i) as (λ b. nat_lt k i ≡ b → (k < i) ⊎ (i ≤ k)) [ true ↦ (λ t. inl (grind (arith, nat_tests, t))) | false ↦ (λ t. inr (grind (arith, nat_tests, t))) ] refl
 
   abbrev before : List ℕ
   before = W ++ S

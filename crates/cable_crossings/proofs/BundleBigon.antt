@@ -126,6 +126,26 @@ passes_arcs r base new f g name n hf hg i (suc count) l at =
     ∙ ap (λ ns. arc (f i) (g i) ∷ ns)
     (passes_arcs r base new f g (named name (top i) (new i)) n hf hg (i + 1) count (omega (arith, l)) (λ k b. named_other name (top i) (new i) (top k) (λ e. omega (arith, e, b)) ∙ at k (omega (arith, b))))
 
+-- ---- steps behind which strands have the names that passes give
+module _ (n : ℕ) (base final : ℕ → ℕ) (one_final : (i j : ℕ) → i < n → j < n → final i ≡ final j → i ≡ j) (final_new : (i j : ℕ) → i < n → j < n → final i ≢ base j) where
+  pub passes_run : IsRun n base (passes final 0 n)
+  passes_run = record {
+    tops = passes_tops n final 0 n (omega arith);
+    distinct = passes_distinct n final one_final 0 n (omega arith);
+    apart = λ z k m l e. (let r = in_passes final 0 n z m in final_new r.0 k (let h = r.2 in omega (arith, h)) l (sym r.3 ∙ e));
+    behind = λ j k lj lk e. final_new j k lj lk (sym (passes_at (based base) final 0 n j (omega arith) (omega (arith, lj))) ∙ e);
+  }
+
+  pub passes_agree : (steps : List Step) → IsRun n base steps → ((k : ℕ) → k < n → names_after (based base) steps (top k) ≡ final k) →
+      AgreeOn (strand_points 0 n) (names_after (based base) steps) (names_after (based base) (passes final 0 n))
+  passes_agree steps run last x m =
+      let l = (member_strands 0 n x m).1 in
+      let k = strand_of x in
+      ⊎_elim
+      (λ e. ap (names_after (based base) steps) e ∙ last k (omega (arith, l)) ∙ sym (ap (names_after (based base) (passes final 0 n)) e ∙ passes_at (based base) final 0 n k (omega arith) (omega (arith, l))))
+      (λ e. ap (names_after (based base) steps) e ∙ bottoms_kept n (based base) steps run.tops k ∙ sym (ap (names_after (based base) (passes final 0 n)) e ∙ bottoms_kept n (based base) (passes final 0 n) passes_run.tops k))
+      (halves x)
+
 -- ---- the two crossings, the second of them read from the east, at numbers that are written out
 module _ (o u : ℕ) (some_o : 0 < o) (some_u : 0 < u) (few_o : o ≤ 8) (few_u : u ≤ 8) where
   abbrev tv : ℕ → ℕ → ℕ
@@ -313,21 +333,10 @@ module _ (o u : ℕ) (some_o : 0 < o) (some_u : 0 < u) (few_o : o ≤ 8) (few_u 
     }
 
     other_run : IsRun n base others
-    other_run = record {
-      tops = passes_tops n final 0 n (omega arith);
-      distinct = passes_distinct n final one_final 0 n (omega arith);
-      apart = λ z k m l e. (let r = in_passes final 0 n z m in final_new r.0 k (let h = r.2 in omega (arith, h)) l (sym r.3 ∙ e));
-      behind = λ j k lj lk e. final_new j k lj lk (sym (passes_at name final 0 n j (omega arith) (omega (arith, lj))) ∙ e);
-    }
+    other_run = passes_run n base final one_final final_new
 
     agree : AgreeOn (strand_points 0 n) (names_after name steps) (names_after name others)
-    agree x m =
-        let l = (member_strands 0 n x m).1 in
-        let k = strand_of x in
-        ⊎_elim
-        (λ e. ap (names_after name steps) e ∙ last_top k (omega (arith, l)) ∙ sym (ap (names_after name others) e ∙ passes_at name final 0 n k (omega arith) (omega (arith, l))))
-        (λ e. ap (names_after name steps) e ∙ bottoms_kept n name steps run.tops k ∙ sym (ap (names_after name others) e ∙ bottoms_kept n name others other_run.tops k))
-        (halves x)
+    agree = passes_agree n base final one_final final_new steps run last_top
 
     nodes_are : step_nodes name steps ≡ grid_nodes b a tv th 0 u o ++ grid_nodes a b wv wh 0 o u
     nodes_are = step_nodes-append name s1 s2 ∙ ap₂ (λ xs ys. xs ++ ys) (grid_is b a tv th name 0 0 u o fits_first) (grid_is a b wv wh between 0 0 o u fits_second)

@@ -20,9 +20,9 @@ use Rattle.word_networks.proofs.Grids.{names_after-append, step_nodes-append, Sp
 use Rattle.word_networks.proofs.PlacedGrids.{passes_spell}
 use Rattle.word_networks.proofs.Strands.{member_strands, strand_top, halves}
 use Rattle.strand_words.specs.Grids as words
-use Rattle.cable_crossings.proofs.BundleBigon.{passes_tops, passes_at, in_passes, passes_distinct, passes_arcs, arcs_between}
-use Rattle.cable_crossings.proofs.BundleTriangle.{code}
-use Rattle.cable_crossings.proofs.CrossingSteps.{long, long-some, long-le, crossing_nodes, crossing_steps, crossing_renamed, crossing_spells, Follows, crossing_follows, crossing_tops, crossing_names, crossing_distinct, IsLongName, AreLongNames}
+use Rattle.cable_crossings.proofs.BundleBigon.{passes_run, passes_agree, passes_arcs, arcs_between}
+use Rattle.cable_crossings.proofs.CrossingSteps.{long, long-few, long-some, crossing_nodes, crossing_steps, crossing_renamed, crossing_spells, Follows, crossing_follows, crossing_tops, crossing_names, crossing_distinct, IsLongName, AreLongNames}
+use Rattle.cable_crossings.proofs.NameCodes.{code, named_by, named_by-code, in_lt, out_lt, below_or, in_le, out_le, joined}
 use Rattle.cable_crossings.proofs.StepPieces.{IsRun, based, bottoms_kept, runs_anywhere}
 use Rattle.cable_crossings.proofs.ThreeRuns.{three_runs}
 
@@ -36,33 +36,12 @@ module _ (x y : ℕ) (few_x : x ≤ 8) (few_y : y ≤ 8) where
   abbrev ly : ℕ
   ly = long y
 
-  low_x : lx ≤ 8
-  low_x = long-le x 8 few_x (omega arith)
-
-  low_y : ly ≤ 8
-  low_y = long-le y 8 few_y (omega arith)
-
-  some_x : 1 ≤ lx
-  some_x = long-some x
-
-  some_y : 1 ≤ ly
-  some_y = long-some y
-
   -- ---- the names before and behind
   abbrev base : ℕ → ℕ
   base k = cond (nat_lt k x) (code 0 (x - 1 - k) 0) (code 1 (k - x) 0)
 
   abbrev final : ℕ → ℕ
   final k = cond (nat_lt k x) (code 0 (x - 1 - k) (ly + ly)) (code 1 (k - x) (lx + lx))
-
-  in_lt : (k i p q : ℕ) → k < i → cond (nat_lt k i) p q ≡ p
-  in_lt k i p q l = grind (arith, nat_tests, l)
-
-  out_lt : (k i p q : ℕ) → i ≤ k → cond (nat_lt k i) p q ≡ q
-  out_lt k i p q l = grind (arith, nat_tests, l)
-
-  below_or : (k i : ℕ) → (k < i) ⊎ (i ≤ k)
-  below_or k i = elim (nat_lt k i) as (λ b. nat_lt k i ≡ b → (k < i) ⊎ (i ≤ k)) [ true ↦ (λ t. inl (grind (arith, nat_tests, t))) | false ↦ (λ t. inr (grind (arith, nat_tests, t))) ] refl
 
   base_x : (k : ℕ) → k < x → base k ≡ code 0 (x - 1 - k) 0
   base_x k l = in_lt k x (code 0 (x - 1 - k) 0) (code 1 (k - x) 0) l
@@ -92,7 +71,7 @@ module _ (x y : ℕ) (few_x : x ≤ 8) (few_y : y ≤ 8) where
 
   final_new : (i j : ℕ) → i < n → j < n → final i ≢ base j
   final_new i j a b e =
-      let ax = low_x in let ay = low_y in let bx = some_x in let by = some_y in
+      let ax = long-few x few_x in let ay = long-few y few_y in let bx = long-some x in let by = long-some y in
       ⊎_elim
       (λ p. (let u = final_x i p in ⊎_elim (λ q. (let v = base_x j q in omega (arith, e, u, v, ay, by))) (λ q. (let v = base_y j q in omega (arith, e, u, v))) (below_or j x)))
       (λ p. (let u = final_y i p in ⊎_elim (λ q. (let v = base_x j q in omega (arith, e, u, v))) (λ q. (let v = base_y j q in omega (arith, e, u, v, ax, bx))) (below_or j x)))
@@ -166,38 +145,38 @@ module _ (x y : ℕ) (few_x : x ≤ 8) (few_y : y ≤ 8) where
 
     names_1 : AreLongNames v1 h1 x y
     names_1 = record {
-      vertical = λ i j k l i0 ix jy k0 kx lt e. let ax = low_x in (omega (arith, e, ix, kx, ax), omega (arith, e, ix, kx, ax));
-      horizontal = λ i j k l ix j0 jy kx l0 lt e. let ay = low_y in (omega (arith, e, jy, lt, ay), omega (arith, e, jy, lt, ay));
+      vertical = λ i j k l i0 ix jy k0 kx lt e. let ax = long-few x few_x in (omega (arith, e, ix, kx, ax), omega (arith, e, ix, kx, ax));
+      horizontal = λ i j k l ix j0 jy kx l0 lt e. let ay = long-few y few_y in (omega (arith, e, jy, lt, ay), omega (arith, e, jy, lt, ay));
       apart = λ i j k l i0 ix jy kx l0 lt e. omega (arith, e);
     }
 
     names_2 : AreLongNames v2 h2 y x
     names_2 = record {
-      vertical = λ i j k l i0 iy jx k0 ky lt e. let ay = low_y in (omega (arith, e, iy, ky, jx, lt, ay), omega (arith, e, iy, ky, jx, lt, ay));
-      horizontal = λ i j k l iy j0 jx ky l0 lt e. let ax = low_x in (omega (arith, e, iy, ky, jx, lt, ax), omega (arith, e, iy, ky, jx, lt, ax));
+      vertical = λ i j k l i0 iy jx k0 ky lt e. let ay = long-few y few_y in (omega (arith, e, iy, ky, jx, lt, ay), omega (arith, e, iy, ky, jx, lt, ay));
+      horizontal = λ i j k l iy j0 jx ky l0 lt e. let ax = long-few x few_x in (omega (arith, e, iy, ky, jx, lt, ax), omega (arith, e, iy, ky, jx, lt, ax));
       apart = λ i j k l i0 iy jx ky l0 lt e. omega (arith, e);
     }
 
     clash : (w : ℕ) → First w → Second w → ⊥
     clash w (inl p) (inl q) = let e = p.5 in let f = q.5 in omega (arith, e, f)
-    clash w (inl p) (inr q) = let e = p.5 in let f = q.5 in let a = p.3 in let b = q.3 in let d = q.4 in let ax = low_x in omega (arith, e, f, a, b, d, ax)
-    clash w (inr p) (inl q) = let e = p.5 in let f = q.5 in let a = p.4 in let b = q.2 in let d = q.3 in let ay = low_y in omega (arith, e, f, a, b, d, ay)
+    clash w (inl p) (inr q) = let e = p.5 in let f = q.5 in let a = p.3 in let b = q.3 in let d = q.4 in let ax = long-few x few_x in omega (arith, e, f, a, b, d, ax)
+    clash w (inr p) (inl q) = let e = p.5 in let f = q.5 in let a = p.4 in let b = q.2 in let d = q.3 in let ay = long-few y few_y in omega (arith, e, f, a, b, d, ay)
     clash w (inr p) (inr q) = let e = p.5 in let f = q.5 in omega (arith, e, f)
 
     first_new : (w k : ℕ) → First w → k < n → w ≢ base k
     first_new w k (inl p) l e =
-        let f = p.5 in let a = p.2 in let b = p.3 in let ax = low_x in
+        let f = p.5 in let a = p.2 in let b = p.3 in let ax = long-few x few_x in
         ⊎_elim (λ q. (let g = base_x k q in omega (arith, e, f, g))) (λ q. (let g = base_y k q in omega (arith, e, f, g, a, b, ax))) (below_or k x)
     first_new w k (inr p) l e =
-        let f = p.5 in let a = p.3 in let b = p.4 in let ay = low_y in
+        let f = p.5 in let a = p.3 in let b = p.4 in let ay = long-few y few_y in
         ⊎_elim (λ q. (let g = base_x k q in omega (arith, e, f, g, a, b, ay))) (λ q. (let g = base_y k q in omega (arith, e, f, g))) (below_or k x)
 
     second_new : (w k : ℕ) → Second w → k < n → w ≢ base k
     second_new w k (inl p) l e =
-        let f = p.5 in let a = p.2 in let b = p.3 in let ay = low_y in
+        let f = p.5 in let a = p.2 in let b = p.3 in let ay = long-few y few_y in
         ⊎_elim (λ q. (let g = base_x k q in omega (arith, e, f, g, a, b, ay))) (λ q. (let g = base_y k q in omega (arith, e, f, g))) (below_or k x)
     second_new w k (inr p) l e =
-        let f = p.5 in let a = p.3 in let b = p.4 in let ax = low_x in
+        let f = p.5 in let a = p.3 in let b = p.4 in let ax = long-few x few_x in
         ⊎_elim (λ q. (let g = base_x k q in omega (arith, e, f, g))) (λ q. (let g = base_y k q in omega (arith, e, f, g, a, b, ax))) (below_or k x)
 
     run : IsRun n base steps
@@ -207,21 +186,10 @@ module _ (x y : ℕ) (few_x : x ≤ 8) (few_y : y ≤ 8) where
         (λ j k lj lk e. final_new j k lj lk (sym (behind j lj) ∙ e))
 
     other_run : IsRun n base others
-    other_run = record {
-      tops = passes_tops n final 0 n (omega arith);
-      distinct = passes_distinct n final one_final 0 n (omega arith);
-      apart = λ z k m l e. (let r = in_passes final 0 n z m in final_new r.0 k (let h = r.2 in omega (arith, h)) l (sym r.3 ∙ e));
-      behind = λ j k lj lk e. final_new j k lj lk (sym (passes_at name final 0 n j (omega arith) (omega (arith, lj))) ∙ e);
-    }
+    other_run = passes_run n base final one_final final_new
 
     agree : AgreeOn (strand_points 0 n) (names_after name steps) (names_after name others)
-    agree u m =
-        let l = (member_strands 0 n u m).1 in
-        let k = strand_of u in
-        ⊎_elim
-        (λ e. ap (names_after name steps) e ∙ behind k (omega (arith, l)) ∙ sym (ap (names_after name others) e ∙ passes_at name final 0 n k (omega arith) (omega (arith, l))))
-        (λ e. ap (names_after name steps) e ∙ bottoms_kept n name steps run.tops k ∙ sym (ap (names_after name others) e ∙ bottoms_kept n name others other_run.tops k))
-        (halves u)
+    agree = passes_agree n base final one_final final_new steps run (λ k l. behind k l)
 
   -- ---- at any names
   module _ (V₁ H₁ V₂ H₂ : ℕ → ℕ → ℕ) (meet_x : (i : ℕ) → i < x → H₁ i ly ≡ V₂ 0 (x - 1 - i)) (meet_y : (c : ℕ) → c < y → V₁ lx c ≡ H₂ (y - 1 - c) 0) where
@@ -229,41 +197,26 @@ module _ (x y : ℕ) (few_x : x ≤ 8) (few_y : y ≤ 8) where
     pick tag i m = cond (tag == 0) (cond (nat_le m ly) (H₁ i m) (V₂ (m - ly) (x - 1 - i))) (cond (nat_le m lx) (V₁ m i) (H₂ (y - 1 - i) (m - lx)))
 
     abbrev r : ℕ → ℕ
-    r w = pick (w % 8) (w / 8 / 32) (w / 8 % 32)
+    r = named_by pick
 
     r_code : (tag i m : ℕ) → tag < 8 → m < 32 → r (code tag i m) ≡ pick tag i m
-    r_code tag i m t l =
-        let w = code tag i m in
-        let e : w % 8 ≡ tag = omega (arith, t) in
-        let q : w / 8 / 32 ≡ i = omega (arith, t, l) in
-        let p : w / 8 % 32 ≡ m = omega (arith, t, l) in
-        ap (λ s. pick s (w / 8 / 32) (w / 8 % 32)) e ∙ ap₂ (pick tag) q p
-
-    in_le : (i k p q : ℕ) → i ≤ k → cond (nat_le i k) p q ≡ p
-    in_le i k p q l = grind (arith, nat_tests, l)
-
-    out_le : (i k p q : ℕ) → k < i → cond (nat_le i k) p q ≡ q
-    out_le i k p q l = grind (arith, nat_tests, l)
-
-    joined : (f g : ℕ → ℕ) (at j : ℕ) → f at ≡ g 0 → cond (nat_le (at + j) at) (f (at + j)) (g (at + j - at)) ≡ g j
-    joined f g at zero e = let s : at + 0 ≡ at = omega arith in in_le (at + 0) at (f (at + 0)) (g (at + 0 - at)) (omega arith) ∙ ap f s ∙ e
-    joined f g at (suc j) e = let s : at + suc j - at ≡ suc j = omega arith in out_le (at + suc j) at (f (at + suc j)) (g (at + suc j - at)) (omega arith) ∙ ap g s
+    r_code = named_by-code pick
 
     v1_is : (i j : ℕ) → i ≤ lx → j < y → r (v1 i j) ≡ V₁ i j
-    v1_is i j l h = let a = low_x in r_code 1 j i (omega arith) (omega (arith, l, a)) ∙ in_le i lx (V₁ i j) (H₂ (y - 1 - j) (i - lx)) l
+    v1_is i j l h = let a = long-few x few_x in r_code 1 j i (omega arith) (omega (arith, l, a)) ∙ in_le i lx (V₁ i j) (H₂ (y - 1 - j) (i - lx)) l
 
     h1_is : (i j : ℕ) → i < x → j ≤ ly → r (h1 i j) ≡ H₁ i j
-    h1_is i j l h = let a = low_y in r_code 0 i j (omega arith) (omega (arith, h, a)) ∙ in_le j ly (H₁ i j) (V₂ (j - ly) (x - 1 - i)) h
+    h1_is i j l h = let a = long-few y few_y in r_code 0 i j (omega arith) (omega (arith, h, a)) ∙ in_le j ly (H₁ i j) (V₂ (j - ly) (x - 1 - i)) h
 
     v2_is : (i j : ℕ) → i ≤ ly → j < x → r (v2 i j) ≡ V₂ i j
     v2_is i j l h =
-        let a = low_y in
+        let a = long-few y few_y in
         let back : x - 1 - (x - 1 - j) ≡ j = omega (arith, h) in
         r_code 0 (x - 1 - j) (ly + i) (omega arith) (omega (arith, l, a)) ∙ joined (H₁ (x - 1 - j)) (λ m. V₂ m (x - 1 - (x - 1 - j))) ly i (meet_x (x - 1 - j) (omega (arith, h))) ∙ ap (V₂ i) back
 
     h2_is : (i j : ℕ) → i < y → j ≤ lx → r (h2 i j) ≡ H₂ i j
     h2_is i j l h =
-        let a = low_x in
+        let a = long-few x few_x in
         let back : y - 1 - (y - 1 - i) ≡ i = omega (arith, l) in
         r_code 1 (y - 1 - i) (lx + j) (omega arith) (omega (arith, h, a)) ∙ joined (λ m. V₁ m (y - 1 - i)) (H₂ (y - 1 - (y - 1 - i))) lx j (meet_y (y - 1 - i) (omega (arith, l))) ∙ ap (λ k. H₂ k j) back
 

@@ -9,13 +9,10 @@ use Rattle.word_networks.specs.Spelling.{AgreeOn}
 use Rattle.word_networks.specs.Steps.{Step, names_after}
 use Rattle.word_networks.specs.Strands.{strand_of, strand_points}
 use Rattle.word_networks.proofs.Strands.{member_strands, strand_top, halves}
-use Rattle.cable_crossings.proofs.CrossingSteps.{long, long-some, long-le, crossing_steps, Follows, crossing_follows, crossing_tops, crossing_names, crossing_distinct, IsLongName, AreLongNames}
+use Rattle.cable_crossings.proofs.CrossingSteps.{long, long-few, long-some, crossing_steps, Follows, crossing_follows, crossing_tops, crossing_names, crossing_distinct, IsLongName, AreLongNames}
+use Rattle.cable_crossings.proofs.NameCodes.{code, in_lt, out_lt, below_or}
 use Rattle.cable_crossings.proofs.StepPieces.{IsRun, based, bottoms_kept}
 use Rattle.cable_crossings.proofs.ThreeRuns.{three_runs, three_names}
-
--- the number of edge m of strand i, of the bundle with this tag
-abbrev pub code : ℕ → ℕ → ℕ → ℕ
-code tag i m = 8 * (32 * i + m) + tag
 
 -- 1 at an inner edge of a strand whose last edge is `last`
 abbrev pub bit : ℕ → ℕ → ℕ
@@ -50,24 +47,6 @@ module _ (x y z : ℕ) (few_x : x ≤ 8) (few_y : y ≤ 8) (few_z : z ≤ 8) whe
   abbrev lz : ℕ
   lz = long z
 
-  low_x : lx ≤ 8
-  low_x = long-le x 8 few_x (omega arith)
-
-  low_y : ly ≤ 8
-  low_y = long-le y 8 few_y (omega arith)
-
-  low_z : lz ≤ 8
-  low_z = long-le z 8 few_z (omega arith)
-
-  some_x : 1 ≤ lx
-  some_x = long-some x
-
-  some_y : 1 ≤ ly
-  some_y = long-some y
-
-  some_z : 1 ≤ lz
-  some_z = long-some z
-
   -- ---- the names before and behind
   abbrev pub base : ℕ → ℕ
   base k = cond (nat_lt k x) (code 0 (x - 1 - k) 0) (cond (nat_lt k (x + y)) (code 1 (k - x) 0) (code 2 (k - x - y) 0))
@@ -77,15 +56,6 @@ module _ (x y z : ℕ) (few_x : x ≤ 8) (few_y : y ≤ 8) (few_z : z ≤ 8) whe
 
   first : (k i p q w : ℕ) → k < i → cond (nat_lt k i) p (cond (nat_lt k (i + q)) w 0) ≡ p
   first k i p q w l = grind (arith, nat_tests, l)
-
-  in_lt : (k i p q : ℕ) → k < i → cond (nat_lt k i) p q ≡ p
-  in_lt k i p q l = grind (arith, nat_tests, l)
-
-  out_lt : (k i p q : ℕ) → i ≤ k → cond (nat_lt k i) p q ≡ q
-  out_lt k i p q l = grind (arith, nat_tests, l)
-
-  below_or : (k i : ℕ) → (k < i) ⊎ (i ≤ k)
-  below_or k i = elim (nat_lt k i) as (λ b. nat_lt k i ≡ b → (k < i) ⊎ (i ≤ k)) [ true ↦ (λ t. inl (grind (arith, nat_tests, t))) | false ↦ (λ t. inr (grind (arith, nat_tests, t))) ] refl
 
   base_x : (k : ℕ) → k < x → base k ≡ code 0 (x - 1 - k) 0
   base_x k l = in_lt k x (code 0 (x - 1 - k) 0) (cond (nat_lt k (x + y)) (code 1 (k - x) 0) (code 2 (k - x - y) 0)) l
@@ -119,7 +89,7 @@ module _ (x y z : ℕ) (few_x : x ≤ 8) (few_y : y ≤ 8) (few_z : z ≤ 8) whe
 
   final_is : (k : ℕ) → k < n → (i : ℕ) × (m : ℕ) × (i < 8) × (1 ≤ m) × (m ≤ 16) × ((final k ≡ code 0 i m) ⊎ ((final k ≡ code 1 i m) ⊎ (final k ≡ code 2 i m)))
   final_is k l =
-      let ax = low_x in let ay = low_y in let az = low_z in let bx = some_x in let by = some_y in
+      let ax = long-few x few_x in let ay = long-few y few_y in let az = long-few z few_z in let bx = long-some x in let by = long-some y in
       ⊎_elim (λ h. (k, lx + ly, omega (arith, h, few_z), omega (arith, bx), omega (arith, ax, ay), inr (inr (final_z k h))))
       (λ g. ⊎_elim (λ h. (k - z, lx + lz, omega (arith, g, h, few_y), omega (arith, bx), omega (arith, ax, az), inr (inl (final_y k g h))))
       (λ h. (z + y + x - 1 - k, ly + lz, omega (arith, h, l, few_x), omega (arith, by), omega (arith, ay, az), inl (final_x k h))) (below_or k (z + y)))
@@ -335,22 +305,22 @@ module _ (x y z : ℕ) (few_x : x ≤ 8) (few_y : y ≤ 8) (few_z : z ≤ 8) whe
 
     names_1 : AreLongNames v1 h1 x y
     names_1 = record {
-      vertical = λ i j k l i0 ix jy k0 kx ly e. let ax = low_x in (omega (arith, e, ix, kx, ax), omega (arith, e, ix, kx, ax));
-      horizontal = λ i j k l ix j0 jy kx l0 ly e. let ay = low_y in (omega (arith, e, jy, ly, ay), omega (arith, e, jy, ly, ay));
+      vertical = λ i j k l i0 ix jy k0 kx ly e. let ax = long-few x few_x in (omega (arith, e, ix, kx, ax), omega (arith, e, ix, kx, ax));
+      horizontal = λ i j k l ix j0 jy kx l0 ly e. let ay = long-few y few_y in (omega (arith, e, jy, ly, ay), omega (arith, e, jy, ly, ay));
       apart = λ i j k l i0 ix jy kx l0 ly e. omega (arith, e);
     }
 
     names_2 : AreLongNames v2 h2 x z
     names_2 = record {
-      vertical = λ i j k l i0 ix jz k0 kx lz e. let ax = low_x in (omega (arith, e, ix, kx, ax), omega (arith, e, ix, kx, ax));
-      horizontal = λ i j k l ix j0 jz kx l0 lz e. let ay = low_y in let az = low_z in (omega (arith, e, jz, lz, ay, az), omega (arith, e, jz, lz, ay, az));
+      vertical = λ i j k l i0 ix jz k0 kx lz e. let ax = long-few x few_x in (omega (arith, e, ix, kx, ax), omega (arith, e, ix, kx, ax));
+      horizontal = λ i j k l ix j0 jz kx l0 lz e. let ay = long-few y few_y in let az = long-few z few_z in (omega (arith, e, jz, lz, ay, az), omega (arith, e, jz, lz, ay, az));
       apart = λ i j k l i0 ix jz kx l0 lz e. omega (arith, e);
     }
 
     names_3 : AreLongNames v3 h3 y z
     names_3 = record {
-      vertical = λ i j k l i0 iy jz k0 ky lz e. let ax = low_x in let ay = low_y in (omega (arith, e, iy, ky, ax, ay), omega (arith, e, iy, ky, ax, ay));
-      horizontal = λ i j k l iy j0 jz ky l0 lz e. let ax = low_x in let az = low_z in (omega (arith, e, iy, ky, jz, lz, ax, az), omega (arith, e, iy, ky, jz, lz, ax, az));
+      vertical = λ i j k l i0 iy jz k0 ky lz e. let ax = long-few x few_x in let ay = long-few y few_y in (omega (arith, e, iy, ky, ax, ay), omega (arith, e, iy, ky, ax, ay));
+      horizontal = λ i j k l iy j0 jz ky l0 lz e. let ax = long-few x few_x in let az = long-few z few_z in (omega (arith, e, iy, ky, jz, lz, ax, az), omega (arith, e, iy, ky, jz, lz, ax, az));
       apart = λ i j k l i0 iy jz ky l0 lz e. omega (arith, e);
     }
 
@@ -358,16 +328,16 @@ module _ (x y z : ℕ) (few_x : x ≤ 8) (few_y : y ≤ 8) (few_z : z ≤ 8) whe
     clash_12 w (inl p) (inl q) = let e = p.5 in let f = q.5 in omega (arith, e, f)
     clash_12 w (inl p) (inr q) = let e = p.5 in let f = q.5 in omega (arith, e, f)
     clash_12 w (inr p) (inl q) = let e = p.5 in let f = q.5 in omega (arith, e, f)
-    clash_12 w (inr p) (inr q) = let e = p.5 in let f = q.5 in let a = p.4 in let b = q.3 in let c = q.4 in let ay = low_y in let az = low_z in omega (arith, e, f, a, b, c, ay, az)
+    clash_12 w (inr p) (inr q) = let e = p.5 in let f = q.5 in let a = p.4 in let b = q.3 in let c = q.4 in let ay = long-few y few_y in let az = long-few z few_z in omega (arith, e, f, a, b, c, ay, az)
 
     clash_13 : (w : ℕ) → First w → Third w → ⊥
     clash_13 w (inl p) (inl q) = let e = p.5 in let f = q.5 in omega (arith, e, f)
-    clash_13 w (inl p) (inr q) = let e = p.5 in let f = q.5 in let a = p.3 in let b = q.3 in let c = q.4 in let ax = low_x in let az = low_z in omega (arith, e, f, a, b, c, ax, az)
+    clash_13 w (inl p) (inr q) = let e = p.5 in let f = q.5 in let a = p.3 in let b = q.3 in let c = q.4 in let ax = long-few x few_x in let az = long-few z few_z in omega (arith, e, f, a, b, c, ax, az)
     clash_13 w (inr p) (inl q) = let e = p.5 in let f = q.5 in omega (arith, e, f)
     clash_13 w (inr p) (inr q) = let e = p.5 in let f = q.5 in omega (arith, e, f)
 
     clash_23 : (w : ℕ) → Second w → Third w → ⊥
-    clash_23 w (inl p) (inl q) = let e = p.5 in let f = q.5 in let a = p.3 in let b = q.2 in let c = q.3 in let ax = low_x in let ay = low_y in omega (arith, e, f, a, b, c, ax, ay)
+    clash_23 w (inl p) (inl q) = let e = p.5 in let f = q.5 in let a = p.3 in let b = q.2 in let c = q.3 in let ax = long-few x few_x in let ay = long-few y few_y in omega (arith, e, f, a, b, c, ax, ay)
     clash_23 w (inl p) (inr q) = let e = p.5 in let f = q.5 in omega (arith, e, f)
     clash_23 w (inr p) (inl q) = let e = p.5 in let f = q.5 in omega (arith, e, f)
     clash_23 w (inr p) (inr q) = let e = p.5 in let f = q.5 in omega (arith, e, f)
@@ -391,18 +361,18 @@ module _ (x y z : ℕ) (few_x : x ≤ 8) (few_y : y ≤ 8) (few_z : z ≤ 8) whe
 
     inner_1 : (w : ℕ) → First w → IsInner w
     unfolding IsInner
-    inner_1 w (inl p) = let e = p.5 in let a = p.2 in let b = p.3 in let ax = low_x in (p.1, p.0, 0, omega (arith, a), omega (arith, b, ax), omega arith, inr (inl (omega (arith, e))))
-    inner_1 w (inr p) = let e = p.5 in let a = p.3 in let b = p.4 in let ay = low_y in (p.0, p.1, 0, omega (arith, a), omega (arith, b, ay), omega arith, inl (omega (arith, e)))
+    inner_1 w (inl p) = let e = p.5 in let a = p.2 in let b = p.3 in let ax = long-few x few_x in (p.1, p.0, 0, omega (arith, a), omega (arith, b, ax), omega arith, inr (inl (omega (arith, e))))
+    inner_1 w (inr p) = let e = p.5 in let a = p.3 in let b = p.4 in let ay = long-few y few_y in (p.0, p.1, 0, omega (arith, a), omega (arith, b, ay), omega arith, inl (omega (arith, e)))
 
     inner_2 : (w : ℕ) → Second w → IsInner w
     unfolding IsInner
-    inner_2 w (inl p) = let e = p.5 in let a = p.2 in let b = p.3 in let ax = low_x in (p.1, p.0, 0, omega (arith, a), omega (arith, b, ax), omega arith, inr (inr (omega (arith, e))))
-    inner_2 w (inr p) = let e = p.5 in let a = p.3 in let b = p.4 in let ay = low_y in let az = low_z in (p.0, ly + p.1, 0, omega (arith, a), omega (arith, b, ay, az), omega arith, inl (omega (arith, e)))
+    inner_2 w (inl p) = let e = p.5 in let a = p.2 in let b = p.3 in let ax = long-few x few_x in (p.1, p.0, 0, omega (arith, a), omega (arith, b, ax), omega arith, inr (inr (omega (arith, e))))
+    inner_2 w (inr p) = let e = p.5 in let a = p.3 in let b = p.4 in let ay = long-few y few_y in let az = long-few z few_z in (p.0, ly + p.1, 0, omega (arith, a), omega (arith, b, ay, az), omega arith, inl (omega (arith, e)))
 
     inner_3 : (w : ℕ) → Third w → IsInner w
     unfolding IsInner
-    inner_3 w (inl p) = let e = p.5 in let a = p.2 in let b = p.3 in let ax = low_x in let ay = low_y in (p.1, lx + p.0, 0, omega (arith, a), omega (arith, b, ax, ay), omega arith, inr (inr (omega (arith, e))))
-    inner_3 w (inr p) = let e = p.5 in let a = p.3 in let b = p.4 in let ax = low_x in let az = low_z in (y - 1 - p.0, lx + p.1, 0, omega (arith, a), omega (arith, b, ax, az), omega arith, inr (inl (omega (arith, e))))
+    inner_3 w (inl p) = let e = p.5 in let a = p.2 in let b = p.3 in let ax = long-few x few_x in let ay = long-few y few_y in (p.1, lx + p.0, 0, omega (arith, a), omega (arith, b, ax, ay), omega arith, inr (inr (omega (arith, e))))
+    inner_3 w (inr p) = let e = p.5 in let a = p.3 in let b = p.4 in let ax = long-few x few_x in let az = long-few z few_z in (y - 1 - p.0, lx + p.1, 0, omega (arith, a), omega (arith, b, ax, az), omega arith, inr (inl (omega (arith, e))))
 
     -- THE RUN BEFORE THE MOVE
     pub old_run : IsRun n base olds
@@ -432,29 +402,29 @@ module _ (x y z : ℕ) (few_x : x ≤ 8) (few_y : y ≤ 8) (few_z : z ≤ 8) whe
 
     names_4 : AreLongNames w1 k1 y z
     names_4 = record {
-      vertical = λ i j k l i0 iy jz k0 ky hl e. let ay = low_y in let r = same_star 2 j i l k (lx + ly) (omega arith) (omega (arith, iy, ay)) (omega (arith, ky, ay)) e in (r.1, r.0);
-      horizontal = λ i j k l iy j0 jz ky l0 hl e. let az = low_z in let r = same_star 1 (y - 1 - i) j (y - 1 - k) l (lx + lz) (omega arith) (omega (arith, jz, az)) (omega (arith, hl, az)) e in let r0 = r.0 in (omega (arith, r0, iy, ky), r.1);
+      vertical = λ i j k l i0 iy jz k0 ky hl e. let ay = long-few y few_y in let r = same_star 2 j i l k (lx + ly) (omega arith) (omega (arith, iy, ay)) (omega (arith, ky, ay)) e in (r.1, r.0);
+      horizontal = λ i j k l iy j0 jz ky l0 hl e. let az = long-few z few_z in let r = same_star 1 (y - 1 - i) j (y - 1 - k) l (lx + lz) (omega arith) (omega (arith, jz, az)) (omega (arith, hl, az)) e in let r0 = r.0 in (omega (arith, r0, iy, ky), r.1);
       apart = λ i j k l i0 iy jz ky l0 hl. other_star 2 1 j i (lx + ly) (y - 1 - k) l (lx + lz) (omega arith) (omega arith) (λ s. omega (arith, s));
     }
 
     names_5 : AreLongNames w2 k2 x z
     names_5 = record {
-      vertical = λ i j k l i0 ix jz k0 kx hl e. let ax = low_x in let ay = low_y in let r = same_star 2 j (ly + i) l (ly + k) (lx + ly) (omega arith) (omega (arith, ix, ax, ay)) (omega (arith, kx, ax, ay)) e in let r1 = r.1 in (omega (arith, r1), r.0);
-      horizontal = λ i j k l ix j0 jz kx l0 hl e. let az = low_z in same_star 0 i j k l (ly + lz) (omega arith) (omega (arith, jz, az)) (omega (arith, hl, az)) e;
+      vertical = λ i j k l i0 ix jz k0 kx hl e. let ax = long-few x few_x in let ay = long-few y few_y in let r = same_star 2 j (ly + i) l (ly + k) (lx + ly) (omega arith) (omega (arith, ix, ax, ay)) (omega (arith, kx, ax, ay)) e in let r1 = r.1 in (omega (arith, r1), r.0);
+      horizontal = λ i j k l ix j0 jz kx l0 hl e. let az = long-few z few_z in same_star 0 i j k l (ly + lz) (omega arith) (omega (arith, jz, az)) (omega (arith, hl, az)) e;
       apart = λ i j k l i0 ix jz kx l0 hl. other_star 2 0 j (ly + i) (lx + ly) k l (ly + lz) (omega arith) (omega arith) (λ s. omega (arith, s));
     }
 
     names_6 : AreLongNames w3 k3 x y
     names_6 = record {
-      vertical = λ i j k l i0 ix jy k0 kx hl e. let ax = low_x in let az = low_z in let r = same_star 1 j (lz + i) l (lz + k) (lx + lz) (omega arith) (omega (arith, ix, ax, az)) (omega (arith, kx, ax, az)) e in let r1 = r.1 in (omega (arith, r1), r.0);
-      horizontal = λ i j k l ix j0 jy kx l0 hl e. let ay = low_y in let az = low_z in
+      vertical = λ i j k l i0 ix jy k0 kx hl e. let ax = long-few x few_x in let az = long-few z few_z in let r = same_star 1 j (lz + i) l (lz + k) (lx + lz) (omega arith) (omega (arith, ix, ax, az)) (omega (arith, kx, ax, az)) e in let r1 = r.1 in (omega (arith, r1), r.0);
+      horizontal = λ i j k l ix j0 jy kx l0 hl e. let ay = long-few y few_y in let az = long-few z few_z in
           let r = same_star 0 i (lz + j) k (lz + l) (ly + lz) (omega arith) (omega (arith, jy, ay, az)) (omega (arith, hl, ay, az)) e in let r1 = r.1 in (r.0, omega (arith, r1));
       apart = λ i j k l i0 ix jy kx l0 hl. other_star 1 0 j (lz + i) (lx + lz) k (lz + l) (ly + lz) (omega arith) (omega arith) (λ s. omega (arith, s));
     }
 
     clash_45 : (w : ℕ) → Fourth w → Fifth w → ⊥
     clash_45 w (inl p) (inl q) =
-        let ax = low_x in let ay = low_y in let a = p.3 in let b = q.2 in let c = q.3 in
+        let ax = long-few x few_x in let ay = long-few y few_y in let a = p.3 in let b = q.2 in let c = q.3 in
         let r = same_star 2 p.1 p.0 q.1 (ly + q.0) (lx + ly) (omega arith) (omega (arith, a, ay)) (omega (arith, c, ax, ay)) (sym p.5 ∙ q.5) in let r1 = r.1 in omega (arith, r1, a, b)
     clash_45 w (inl p) (inr q) = other_star 2 0 p.1 p.0 (lx + ly) q.0 q.1 (ly + lz) (omega arith) (omega arith) (λ s. omega (arith, s)) (sym p.5 ∙ q.5)
     clash_45 w (inr p) (inl q) = other_star 1 2 (y - 1 - p.0) p.1 (lx + lz) q.1 (ly + q.0) (lx + ly) (omega arith) (omega arith) (λ s. omega (arith, s)) (sym p.5 ∙ q.5)
@@ -464,7 +434,7 @@ module _ (x y z : ℕ) (few_x : x ≤ 8) (few_y : y ≤ 8) (few_z : z ≤ 8) whe
     clash_46 w (inl p) (inl q) = other_star 2 1 p.1 p.0 (lx + ly) q.1 (lz + q.0) (lx + lz) (omega arith) (omega arith) (λ s. omega (arith, s)) (sym p.5 ∙ q.5)
     clash_46 w (inl p) (inr q) = other_star 2 0 p.1 p.0 (lx + ly) q.0 (lz + q.1) (ly + lz) (omega arith) (omega arith) (λ s. omega (arith, s)) (sym p.5 ∙ q.5)
     clash_46 w (inr p) (inl q) =
-        let ax = low_x in let az = low_z in let a = p.4 in let b = q.2 in let c = q.3 in
+        let ax = long-few x few_x in let az = long-few z few_z in let a = p.4 in let b = q.2 in let c = q.3 in
         let r = same_star 1 (y - 1 - p.0) p.1 q.1 (lz + q.0) (lx + lz) (omega arith) (omega (arith, a, az)) (omega (arith, c, ax, az)) (sym p.5 ∙ q.5) in let r1 = r.1 in omega (arith, r1, a, b)
     clash_46 w (inr p) (inr q) = other_star 1 0 (y - 1 - p.0) p.1 (lx + lz) q.0 (lz + q.1) (ly + lz) (omega arith) (omega arith) (λ s. omega (arith, s)) (sym p.5 ∙ q.5)
 
@@ -473,23 +443,23 @@ module _ (x y z : ℕ) (few_x : x ≤ 8) (few_y : y ≤ 8) (few_z : z ≤ 8) whe
     clash_56 w (inl p) (inr q) = other_star 2 0 p.1 (ly + p.0) (lx + ly) q.0 (lz + q.1) (ly + lz) (omega arith) (omega arith) (λ s. omega (arith, s)) (sym p.5 ∙ q.5)
     clash_56 w (inr p) (inl q) = other_star 0 1 p.0 p.1 (ly + lz) q.1 (lz + q.0) (lx + lz) (omega arith) (omega arith) (λ s. omega (arith, s)) (sym p.5 ∙ q.5)
     clash_56 w (inr p) (inr q) =
-        let ay = low_y in let az = low_z in let a = p.4 in let b = q.3 in let c = q.4 in
+        let ay = long-few y few_y in let az = long-few z few_z in let a = p.4 in let b = q.3 in let c = q.4 in
         let r = same_star 0 p.0 p.1 q.0 (lz + q.1) (ly + lz) (omega arith) (omega (arith, a, az)) (omega (arith, c, ay, az)) (sym p.5 ∙ q.5) in let r1 = r.1 in omega (arith, r1, a, b)
 
     inner_4 : (w : ℕ) → Fourth w → IsInner w
     unfolding IsInner
-    inner_4 w (inl p) = let a = p.2 in let b = p.3 in let ay = low_y in (p.1, p.0, bit p.0 (lx + ly), omega (arith, a), omega (arith, b, ay), bit-le p.0 (lx + ly), inr (inr p.5))
-    inner_4 w (inr p) = let a = p.3 in let b = p.4 in let az = low_z in (y - 1 - p.0, p.1, bit p.1 (lx + lz), omega (arith, a), omega (arith, b, az), bit-le p.1 (lx + lz), inr (inl p.5))
+    inner_4 w (inl p) = let a = p.2 in let b = p.3 in let ay = long-few y few_y in (p.1, p.0, bit p.0 (lx + ly), omega (arith, a), omega (arith, b, ay), bit-le p.0 (lx + ly), inr (inr p.5))
+    inner_4 w (inr p) = let a = p.3 in let b = p.4 in let az = long-few z few_z in (y - 1 - p.0, p.1, bit p.1 (lx + lz), omega (arith, a), omega (arith, b, az), bit-le p.1 (lx + lz), inr (inl p.5))
 
     inner_5 : (w : ℕ) → Fifth w → IsInner w
     unfolding IsInner
-    inner_5 w (inl p) = let a = p.2 in let b = p.3 in let ax = low_x in let ay = low_y in (p.1, ly + p.0, bit (ly + p.0) (lx + ly), omega (arith, a), omega (arith, b, ax, ay), bit-le (ly + p.0) (lx + ly), inr (inr p.5))
-    inner_5 w (inr p) = let a = p.3 in let b = p.4 in let az = low_z in (p.0, p.1, bit p.1 (ly + lz), omega (arith, a), omega (arith, b, az), bit-le p.1 (ly + lz), inl p.5)
+    inner_5 w (inl p) = let a = p.2 in let b = p.3 in let ax = long-few x few_x in let ay = long-few y few_y in (p.1, ly + p.0, bit (ly + p.0) (lx + ly), omega (arith, a), omega (arith, b, ax, ay), bit-le (ly + p.0) (lx + ly), inr (inr p.5))
+    inner_5 w (inr p) = let a = p.3 in let b = p.4 in let az = long-few z few_z in (p.0, p.1, bit p.1 (ly + lz), omega (arith, a), omega (arith, b, az), bit-le p.1 (ly + lz), inl p.5)
 
     inner_6 : (w : ℕ) → Sixth w → IsInner w
     unfolding IsInner
-    inner_6 w (inl p) = let a = p.2 in let b = p.3 in let ax = low_x in let az = low_z in (p.1, lz + p.0, bit (lz + p.0) (lx + lz), omega (arith, a), omega (arith, b, ax, az), bit-le (lz + p.0) (lx + lz), inr (inl p.5))
-    inner_6 w (inr p) = let a = p.3 in let b = p.4 in let ay = low_y in let az = low_z in (p.0, lz + p.1, bit (lz + p.1) (ly + lz), omega (arith, a), omega (arith, b, ay, az), bit-le (lz + p.1) (ly + lz), inl p.5)
+    inner_6 w (inl p) = let a = p.2 in let b = p.3 in let ax = long-few x few_x in let az = long-few z few_z in (p.1, lz + p.0, bit (lz + p.0) (lx + lz), omega (arith, a), omega (arith, b, ax, az), bit-le (lz + p.0) (lx + lz), inr (inl p.5))
+    inner_6 w (inr p) = let a = p.3 in let b = p.4 in let ay = long-few y few_y in let az = long-few z few_z in (p.0, lz + p.1, bit (lz + p.1) (ly + lz), omega (arith, a), omega (arith, b, ay, az), bit-le (lz + p.1) (ly + lz), inl p.5)
 
     -- THE RUN BEHIND IT
     pub new_run : IsRun n base news

@@ -42,6 +42,9 @@ pub long-le : (n k : ℕ) → n ≤ k → 1 ≤ k → long n ≤ k
 long-le zero k l s = s
 long-le (suc n) k l s = l
 
+pub long-few : (n : ℕ) → n ≤ 8 → long n ≤ 8
+long-few n l = long-le n 8 l (omega arith)
+
 -- the pairs (f 0, g 0) to (f (n-1), g (n-1))
 abbrev pub between : (ℕ → ℕ) → (ℕ → ℕ) → ℕ → List (ℕ × ℕ)
 between f g n = zip (map f (range_with_len 0 n)) (map g (range_with_len 0 n))

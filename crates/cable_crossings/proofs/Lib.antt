@@ -10,6 +10,7 @@ pub mod CabledStrands
 pub mod CrossingLaws
 pub mod CrossingSteps
 pub mod ThreeRuns
+pub mod NameCodes
 pub mod BundleTriangle
 pub mod TriangleNames
 pub mod ToldCrossings

@@ -38,7 +38,7 @@ AreJoinable (pair ∷ pairs) names =
     (is_member ◌==◌ names pair.0 ≡ true) × (is_member ◌==◌ names pair.1 ≡ true) × (pair.0 ≢ pair.1) × (is_member ◌==◌ (firsts_of pairs) pair.0 ≡ false)
     × (is_member ◌==◌ (seconds_of pairs) pair.0 ≡ false) × (is_member ◌==◌ (firsts_of pairs) pair.1 ≡ false) × AreJoinable pairs names
 
-arcs_ok : (pairs : List (ℕ × ℕ)) → All IsNode (arcs_of pairs)
+pub arcs_ok : (pairs : List (ℕ × ℕ)) → All IsNode (arcs_of pairs)
 arcs_ok [] = All-nil IsNode
 arcs_ok (pair ∷ pairs) = All-cons IsNode (arc pair.0 pair.1) (arcs_of pairs) (IsNode-weighted_arc 1 pair.0 pair.1) (arcs_ok pairs)
 

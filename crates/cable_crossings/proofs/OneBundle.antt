@@ -109,7 +109,7 @@ turned_map (x ∷ xs) (y ∷ ys) e once =
     rest_same x y g [] h = refl
     rest_same x y g (z ∷ zs) h = let c = times_in-cons z zs x in ap₂ (λ p q. p ∷ q) (away z x y (g z) (omega (arith, c, h))) (rest_same x y g zs (omega (arith, c, h)))
 
-rename_zip : (f : ℕ → ℕ) (xs ys : List ℕ) → rename f (arcs_of (zip xs ys)) ≡ arcs_of (zip (map f xs) (map f ys))
+pub rename_zip : (f : ℕ → ℕ) (xs ys : List ℕ) → rename f (arcs_of (zip xs ys)) ≡ arcs_of (zip (map f xs) (map f ys))
 rename_zip f [] ys = refl
 rename_zip f (x ∷ xs) [] = refl
 rename_zip f (x ∷ xs) (y ∷ ys) = ap (λ ns. arc (f x) (f y) ∷ ns) (rename_zip f xs ys)

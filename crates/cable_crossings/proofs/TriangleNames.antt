@@ -11,8 +11,9 @@ use Rattle.strand_words.proofs.WordLaws.{bundle_third_move}
 use Rattle.word_networks.specs.Steps.{Step, step_nodes}
 use Rattle.word_networks.proofs.Grids.{Spells-append}
 use Rattle.strand_words.specs.Grids as words
-use Rattle.cable_crossings.proofs.BundleTriangle.{code, bit, star, bit_end, bit_inner, base, one, name, olds, news, s1, s2, s3, t1, t2, t3, n1, n2, m1, m2, v1, h1, v2, h2, v3, h3, w1, k1, w2, k2, w3, k3, fits_1, fits_2, fits_3, fits_4, fits_5, fits_6, old_run, new_run, sides_agree}
-use Rattle.cable_crossings.proofs.CrossingSteps.{long, long-some, long-le, crossing_nodes, crossing_renamed, crossing_spells}
+use Rattle.cable_crossings.proofs.BundleTriangle.{bit, star, bit_end, bit_inner, base, one, name, olds, news, s1, s2, s3, t1, t2, t3, n1, n2, m1, m2, v1, h1, v2, h2, v3, h3, w1, k1, w2, k2, w3, k3, fits_1, fits_2, fits_3, fits_4, fits_5, fits_6, old_run, new_run, sides_agree}
+use Rattle.cable_crossings.proofs.CrossingSteps.{long, long-few, long-some, crossing_nodes, crossing_renamed, crossing_spells}
+use Rattle.cable_crossings.proofs.NameCodes.{code, named_by, named_by-code, in_le, out_le, joined}
 use Rattle.cable_crossings.proofs.StepPieces.{runs_anywhere}
 use Rattle.cable_crossings.proofs.ThreeRuns.{three_nodes}
 
@@ -41,24 +42,6 @@ module _ (x y z : ℕ) (few_x : x ≤ 8) (few_y : y ≤ 8) (few_z : z ≤ 8) (V�
   abbrev lz : ℕ
   lz = long z
 
-  low_x : lx ≤ 8
-  low_x = long-le x 8 few_x (omega arith)
-
-  low_y : ly ≤ 8
-  low_y = long-le y 8 few_y (omega arith)
-
-  low_z : lz ≤ 8
-  low_z = long-le z 8 few_z (omega arith)
-
-  some_x : 1 ≤ lx
-  some_x = long-some x
-
-  some_y : 1 ≤ ly
-  some_y = long-some y
-
-  some_z : 1 ≤ lz
-  some_z = long-some z
-
   -- ---- the name of edge m of strand i, by tags
   abbrev pick : ℕ → ℕ → ℕ → ℕ
   pick tag i m =
@@ -70,46 +53,30 @@ module _ (x y z : ℕ) (few_x : x ≤ 8) (few_y : y ≤ 8) (few_z : z ≤ 8) (V�
       (cond (nat_le m ly) (W₁ m i) (W₂ (m - ly) i))))))
 
   abbrev r : ℕ → ℕ
-  r w = pick (w % 8) (w / 8 / 32) (w / 8 % 32)
+  r = named_by pick
 
   r_code : (tag i m : ℕ) → tag < 8 → m < 32 → r (code tag i m) ≡ pick tag i m
-  r_code tag i m t l =
-      let w = code tag i m in
-      let e : w % 8 ≡ tag = omega (arith, t) in
-      let q : w / 8 / 32 ≡ i = omega (arith, t, l) in
-      let p : w / 8 % 32 ≡ m = omega (arith, t, l) in
-      ap (λ s. pick s (w / 8 / 32) (w / 8 % 32)) e ∙ ap₂ (pick tag) q p
-
-  in_le : (i k p q : ℕ) → i ≤ k → cond (nat_le i k) p q ≡ p
-  in_le i k p q l = grind (arith, nat_tests, l)
-
-  out_le : (i k p q : ℕ) → k < i → cond (nat_le i k) p q ≡ q
-  out_le i k p q l = grind (arith, nat_tests, l)
-
-  -- two functions, one behind the other, that meet
-  joined : (f g : ℕ → ℕ) (at j : ℕ) → f at ≡ g 0 → cond (nat_le (at + j) at) (f (at + j)) (g (at + j - at)) ≡ g j
-  joined f g at zero e = let s : at + 0 ≡ at = omega arith in in_le (at + 0) at (f (at + 0)) (g (at + 0 - at)) (omega arith) ∙ ap f s ∙ e
-  joined f g at (suc j) e = let s : at + suc j - at ≡ suc j = omega arith in out_le (at + suc j) at (f (at + suc j)) (g (at + suc j - at)) (omega arith) ∙ ap g s
+  r_code = named_by-code pick
 
   -- ---- the crossings before the move
   v1_is : (i j : ℕ) → i ≤ lx → j < y → r (v1 x y z few_x few_y few_z i j) ≡ V₁ i j
-  v1_is i j l h = let a = low_x in r_code 1 j i (omega arith) (omega (arith, l, a)) ∙ in_le i lx (V₁ i j) (H₃ (y - 1 - j) (i - lx)) l
+  v1_is i j l h = let a = long-few x few_x in r_code 1 j i (omega arith) (omega (arith, l, a)) ∙ in_le i lx (V₁ i j) (H₃ (y - 1 - j) (i - lx)) l
 
   h1_is : (i j : ℕ) → i < x → j ≤ ly → r (h1 x y z few_x few_y few_z i j) ≡ H₁ i j
-  h1_is i j l h = let a = low_y in r_code 0 i j (omega arith) (omega (arith, h, a)) ∙ in_le j ly (H₁ i j) (H₂ i (j - ly)) h
+  h1_is i j l h = let a = long-few y few_y in r_code 0 i j (omega arith) (omega (arith, h, a)) ∙ in_le j ly (H₁ i j) (H₂ i (j - ly)) h
 
   v2_is : (i j : ℕ) → i ≤ lx → j < z → r (v2 x y z few_x few_y few_z i j) ≡ V₂ i j
-  v2_is i j l h = let a = low_x in r_code 2 j i (omega arith) (omega (arith, l, a)) ∙ in_le i lx (V₂ i j) (V₃ (i - lx) j) l
+  v2_is i j l h = let a = long-few x few_x in r_code 2 j i (omega arith) (omega (arith, l, a)) ∙ in_le i lx (V₂ i j) (V₃ (i - lx) j) l
 
   h2_is : (i j : ℕ) → i < x → j ≤ lz → r (h2 x y z few_x few_y few_z i j) ≡ H₂ i j
-  h2_is i j l h = let a = low_y in let b = low_z in r_code 0 i (ly + j) (omega arith) (omega (arith, h, a, b)) ∙ joined (H₁ i) (H₂ i) ly j (meets.old_x i l)
+  h2_is i j l h = let a = long-few y few_y in let b = long-few z few_z in r_code 0 i (ly + j) (omega arith) (omega (arith, h, a, b)) ∙ joined (H₁ i) (H₂ i) ly j (meets.old_x i l)
 
   v3_is : (i j : ℕ) → i ≤ ly → j < z → r (v3 x y z few_x few_y few_z i j) ≡ V₃ i j
-  v3_is i j l h = let a = low_x in let b = low_y in r_code 2 j (lx + i) (omega arith) (omega (arith, l, a, b)) ∙ joined (λ m. V₂ m j) (λ m. V₃ m j) lx i (meets.old_z j h)
+  v3_is i j l h = let a = long-few x few_x in let b = long-few y few_y in r_code 2 j (lx + i) (omega arith) (omega (arith, l, a, b)) ∙ joined (λ m. V₂ m j) (λ m. V₃ m j) lx i (meets.old_z j h)
 
   h3_is : (i j : ℕ) → i < y → j ≤ lz → r (h3 x y z few_x few_y few_z i j) ≡ H₃ i j
   h3_is i j l h =
-      let a = low_x in let b = low_z in
+      let a = long-few x few_x in let b = long-few z few_z in
       let back : y - 1 - (y - 1 - i) ≡ i = omega (arith, l) in
       r_code 1 (y - 1 - i) (lx + j) (omega arith) (omega (arith, h, a, b)) ∙ joined (λ m. V₁ m (y - 1 - i)) (H₃ (y - 1 - (y - 1 - i))) lx j (meets.old_y (y - 1 - i) (omega (arith, l))) ∙ ap (λ k. H₃ k j) back
 
@@ -158,13 +125,13 @@ module _ (x y z : ℕ) (few_x : x ≤ 8) (few_y : y ≤ 8) (few_z : z ≤ 8) (V�
 
   w1_is : (i j : ℕ) → i ≤ ly → j < z → r (w1 x y z few_x few_y few_z i j) ≡ W₁ i j
   w1_is i j l h =
-      let a = low_x in let b = low_y in let s = some_x in
+      let a = long-few x few_x in let b = long-few y few_y in let s = long-some x in
       starred 2 j i (lx + ly) (W₁ i j) (omega arith) (omega (arith, l)) (omega (arith, a, b))
       (λ e. pick_start_z j i h e ∙ ap (λ k. W₁ k j) (sym e)) (λ e. absurd (omega (arith, e, l, s))) (λ p q. in_le i ly (W₁ i j) (W₂ (i - ly) j) l)
 
   k1_is : (i j : ℕ) → i < y → j ≤ lz → r (k1 x y z few_x few_y few_z i j) ≡ K₁ i j
   k1_is i j l h =
-      let a = low_x in let b = low_z in let s = some_x in
+      let a = long-few x few_x in let b = long-few z few_z in let s = long-some x in
       let c = y - 1 - i in
       let back : y - 1 - c ≡ i = omega (arith, l) in
       starred 1 c j (lx + lz) (K₁ i j) (omega arith) (omega (arith, h)) (omega (arith, a, b))
@@ -172,25 +139,25 @@ module _ (x y z : ℕ) (few_x : x ≤ 8) (few_y : y ≤ 8) (few_z : z ≤ 8) (V�
 
   w2_is : (i j : ℕ) → i ≤ lx → j < z → r (w2 x y z few_x few_y few_z i j) ≡ W₂ i j
   w2_is i j l h =
-      let a = low_x in let b = low_y in let s = some_y in
+      let a = long-few x few_x in let b = long-few y few_y in let s = long-some y in
       starred 2 j (ly + i) (lx + ly) (W₂ i j) (omega arith) (omega (arith, l)) (omega (arith, a, b))
       (λ e. absurd (omega (arith, e, s))) (λ e. pick_end_z j (ly + i) h e ∙ ap (λ k. W₂ k j) (let t : lx ≡ i = omega (arith, e) in t)) (λ p q. joined (λ m. W₁ m j) (λ m. W₂ m j) ly i (meets.new_z j h))
 
   k2_is : (i j : ℕ) → i < x → j ≤ lz → r (k2 x y z few_x few_y few_z i j) ≡ K₂ i j
   k2_is i j l h =
-      let a = low_y in let b = low_z in let s = some_y in
+      let a = long-few y few_y in let b = long-few z few_z in let s = long-some y in
       starred 0 i j (ly + lz) (K₂ i j) (omega arith) (omega (arith, h)) (omega (arith, a, b))
       (λ e. pick_start_x i j l e ∙ ap (K₂ i) (sym e)) (λ e. absurd (omega (arith, e, h, s))) (λ p q. in_le j lz (K₂ i j) (K₃ i (j - lz)) h)
 
   w3_is : (i j : ℕ) → i ≤ lx → j < y → r (w3 x y z few_x few_y few_z i j) ≡ W₃ i j
   w3_is i j l h =
-      let a = low_x in let b = low_z in let s = some_z in
+      let a = long-few x few_x in let b = long-few z few_z in let s = long-some z in
       starred 1 j (lz + i) (lx + lz) (W₃ i j) (omega arith) (omega (arith, l)) (omega (arith, a, b))
       (λ e. absurd (omega (arith, e, s))) (λ e. pick_end_y j (lz + i) h e ∙ ap (λ k. W₃ k j) (let t : lx ≡ i = omega (arith, e) in t)) (λ p q. joined (K₁ (y - 1 - j)) (λ m. W₃ m j) lz i (meets.new_y j h))
 
   k3_is : (i j : ℕ) → i < x → j ≤ ly → r (k3 x y z few_x few_y few_z i j) ≡ K₃ i j
   k3_is i j l h =
-      let a = low_y in let b = low_z in let s = some_z in
+      let a = long-few y few_y in let b = long-few z few_z in let s = long-some z in
       starred 0 i (lz + j) (ly + lz) (K₃ i j) (omega arith) (omega (arith, h)) (omega (arith, a, b))
       (λ e. absurd (omega (arith, e, s))) (λ e. pick_end_x i (lz + j) l e ∙ ap (K₃ i) (let t : ly ≡ j = omega (arith, e) in t)) (λ p q. joined (K₂ i) (K₃ i) lz j (meets.new_x i l))
 

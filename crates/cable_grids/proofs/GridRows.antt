@@ -1,6 +1,5 @@
--- One more row of a grid.
---
--- Others cite: pushed_row, line_length, upright_length.
+-- One more row of a grid: the rows so far, with those that are left from the names above them on, are the grid. A row's line and its
+-- uprights are as many names as there are columns.
 use Rattle.std.proofs.Common.{◌≡◌, ℕ, ◌+◌, ◌-◌, ◌*◌, ◌^◌, ◌<◌, ◌≤◌, List, [], ◌∷◌, ◌++◌, length, get_or, drop, refl, sym, ap, ap₂, ◌∙◌, arith, length-append, append-nil, append_assoc, drop-cons, add-one, ◌⊎◌, ⊎_elim}
 use Rattle.state_sums.specs.Networks.{Node}
 use Rattle.std.proofs.lemmas.List.{length-drop}

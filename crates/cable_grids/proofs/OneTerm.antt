@@ -1,6 +1,5 @@
--- Straight strands pair as many points as there are ends, and so does a vertex.
---
--- Others cite: straight_length, vertex_short, vertex_ends.
+-- Straight strands pair as many points as there are ends, and so does a vertex, which has at most 24 of them where its colours are
+-- at most 8 and meet admissibly.
 use Rattle.std.proofs.Common.{◌≡◌, ℕ, ◌+◌, List, ◌++◌, length, sym, ap, arith, subst, ◌*◌, ◌≤◌, length-append}
 use Rattle.state_sums.specs.Networks.{IsPairing}
 use Rattle.strand_algebra.specs.StrandPairings.{straight}

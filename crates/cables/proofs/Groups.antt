@@ -32,7 +32,7 @@ grid_same p g h k u i bottoms (w ∷ v ∷ wests) (e ∷ easts) north =
     ∙ ap₂ (λ x y. x ++ y) (row_same p g h bottoms line tops w) (grid_same p g h k u (i + 1) tops (v ∷ wests) easts north)
     ∙ sym (map-append without_group (row p h bottoms w line tops) (grid p h k u (i + 1) tops (v ∷ wests) easts north))
 
-crossing_same : (p : Parameters) (g h k : ℕ) (a b c d : List ℕ) → map without_group (crossing_cable p g k a b c d) ≡ map without_group (crossing_cable p h k a b c d)
+pub crossing_same : (p : Parameters) (g h k : ℕ) (a b c d : List ℕ) → map without_group (crossing_cable p g k a b c d) ≡ map without_group (crossing_cable p h k a b c d)
 crossing_same p g h k [] [] c d = refl
 crossing_same p g h k [] (b ∷ others) c d = refl
 crossing_same p g h k (a ∷ more) [] c d = refl
@@ -49,7 +49,7 @@ vertex_same g h (a ∷ x) (b ∷ y) [] = refl
 vertex_same g h (a ∷ x) (b ∷ y) (c ∷ z) = refl
 
 module _ (p : Parameters) (strands : Strands) where
-  loop_same : (g h : ℕ) (names : List ℕ) → map without_group (loop_nodes strands g names) ≡ map without_group (loop_nodes strands h names)
+  pub loop_same : (g h : ℕ) (names : List ℕ) → map without_group (loop_nodes strands g names) ≡ map without_group (loop_nodes strands h names)
   loop_same g h [] = refl
   loop_same g h (x ∷ []) = refl
   loop_same g h (x ∷ y ∷ names) = refl

@@ -104,7 +104,7 @@ inner_once k zero o x a b = omega arith
 inner_once k (suc u) zero x a b = omega arith
 inner_once k (suc u) (suc o) x a b = rows_once k (suc u) x a (suc o) b
 
-inner_range : (k u o x : ℕ) → u ≤ 8 → o ≤ 8 → 1 ≤ crossing_inner k u o x → (2 ^ 25 + 128 * k ≤ x) × (x < 2 ^ 25 + 128 * k + 128)
+pub inner_range : (k u o x : ℕ) → u ≤ 8 → o ≤ 8 → 1 ≤ crossing_inner k u o x → (2 ^ 25 + 128 * k ≤ x) × (x < 2 ^ 25 + 128 * k + 128)
 inner_range k zero o x a b h = absurd (omega (arith, h))
 inner_range k (suc u) zero x a b h = absurd (omega (arith, h))
 inner_range k (suc u) (suc o) x a b h = rows_range k (suc u) x a (suc o) b h

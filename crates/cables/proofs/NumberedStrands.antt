@@ -51,7 +51,7 @@ module _ (colour : ℕ → ℕ) (boxed : ℕ → Bool) (box : ℕ → List Term)
     pub first_once : (label : ℕ) → first_times strands x label ≤ 1
     first_once label = times-map (first_name label) (λ a b e. omega (arith, e)) x 0 (colour label)
 
-    second_once : (label : ℕ) → second_times strands x label ≤ 1
+    pub second_once : (label : ℕ) → second_times strands x label ≤ 1
     second_once label = let e = second_is label in let b = times-map (second_name label) (λ a b e. omega (arith, e)) x 0 (colour label) in omega (arith, e, b)
 
     pub plain_second : (label : ℕ) → boxed label ≡ false → second_times strands x label ≡ first_times strands x label
@@ -78,10 +78,10 @@ module _ (colour : ℕ → ℕ) (boxed : ℕ → Bool) (box : ℕ → List Term)
         (zero_or_some (first_times strands x label))
 
     module _ (few : (label : ℕ) → colour label ≤ 8) where
-      first_label : (label : ℕ) → 1 ≤ first_times strands x label → x / 16 ≡ label
+      pub first_label : (label : ℕ) → 1 ≤ first_times strands x label → x / 16 ≡ label
       first_label label h = let r = found_first label h in let b = r.1.0 in let e = r.1.1 in let c = few label in omega (arith, b, e, c)
 
-      second_label : (label : ℕ) → 1 ≤ second_times strands x label → x / 16 ≡ label
+      pub second_label : (label : ℕ) → 1 ≤ second_times strands x label → x / 16 ≡ label
       second_label label h = let r = found_second label h in let b = r.1.0 in let e = r.1.1 in let c = few label in let s = shift-le (boxed label) in omega (arith, b, e, c, s)
 
       pub only_label : OnlyLabel strands x (x / 16)

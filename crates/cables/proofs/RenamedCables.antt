@@ -33,7 +33,7 @@ moved_all r f g h [] = refl
 moved_all r f g h (x ∷ xs) = ap₂ (λ y ys. y ∷ ys) (h x) (moved_all r f g h xs)
 
 -- the names of grid k become those of grid k'
-abbrev Moves : (ℕ → ℕ) → ℕ → ℕ → Type 0
+abbrev pub Moves : (ℕ → ℕ) → ℕ → ℕ → Type 0
 Moves r k k' = (offset : ℕ) → r (2 ^ 25 + 128 * k + offset) ≡ 2 ^ 25 + 128 * k' + offset
 
 next_moves : (r : ℕ → ℕ) (k k' : ℕ) → Moves r k k' → Moves r (k + 1) (k' + 1)
@@ -86,7 +86,7 @@ module _ (p : Parameters) (r : ℕ → ℕ) where
   through-renamed group xs ys =
       ap₂ (λ ends n. record { group = group; ends = ends; terms = record { weight = 1; partner = straight n } ∷ [] } ∷ []) (sym (map-append r xs ys)) (length-map xs r)
 
-  crossing-renamed : (group k k' : ℕ) → Moves r k k' → (a b c d : List ℕ) → crossing_cable p group k' (map r a) (map r b) (map r c) (map r d) ≡ rename r (crossing_cable p group k a b c d)
+  pub crossing-renamed : (group k k' : ℕ) → Moves r k k' → (a b c d : List ℕ) → crossing_cable p group k' (map r a) (map r b) (map r c) (map r d) ≡ rename r (crossing_cable p group k a b c d)
   crossing-renamed group k k' moves [] [] c d = refl
   crossing-renamed group k k' moves [] (b ∷ others) c d = through-renamed group (b ∷ others) d
   crossing-renamed group k k' moves (a ∷ more) [] c d = through-renamed group (a ∷ more) c
@@ -139,7 +139,7 @@ module _ (p : Parameters) (r : ℕ → ℕ) where
     boxes-renamed group [] = refl
     boxes-renamed group (l ∷ ls) = ap₂ (λ x y. x ++ y) (box-renamed group (strands.first l) (strands.second l)) (boxes-renamed group ls)
 
-    loop-renamed : (group : ℕ) (names : List ℕ) → loop_nodes (renamed_strands r strands) group (map r names) ≡ rename r (loop_nodes strands group names)
+    pub loop-renamed : (group : ℕ) (names : List ℕ) → loop_nodes (renamed_strands r strands) group (map r names) ≡ rename r (loop_nodes strands group names)
     loop-renamed group [] = refl
     loop-renamed group (x ∷ []) = refl
     loop-renamed group (x ∷ y ∷ names) =

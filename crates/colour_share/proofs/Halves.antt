@@ -1,5 +1,5 @@
 -- Two halves of the workers.
-use Rattle.std.proofs.Common.{◌≡◌, ℕ, suc, ◌+◌, ◌-◌, ◌*◌, ◌%◌, ◌^◌, ◌<◌, ◌≤◌, Bool, true, false, if◌then◌else◌, List, [], ◌∷◌, ◌++◌, length, Some, Result, Ok, Err, pos, ◌+ℤ◌, refl, sym, ap, subst, ◌∙◌, arith, inl, inr, slice_get, get_or, length-append}
+use Rattle.std.proofs.Common.{◌≡◌, ℕ, suc, ◌+◌, ◌-◌, ◌*◌, ◌^◌, ◌<◌, ◌≤◌, Bool, true, false, if◌then◌else◌, List, [], ◌∷◌, ◌++◌, length, Some, Result, Ok, Err, pos, ◌+ℤ◌, refl, sym, ap, subst, ◌∙◌, arith, inl, inr, slice_get, get_or, length-append}
 use Rattle.std.proofs.lemmas.Bool.{cases_lt}
 use Rattle.std.proofs.lemmas.Option.{slice_get_within, slice_get-get_or, get_or_from_slice_get}
 use Rattle.std.proofs.lemmas.List.{get_or_append_left, get_or-append-add}
@@ -10,12 +10,12 @@ use Rattle.frontier_laws.specs.Orders.{View}
 use Rattle.frontier_sweep.specs.Sweeps.{IsSwept}
 use Rattle.wenzl_table.specs.Tables.{Table, Notes}
 use Rattle.kirby_terms.specs.Terms.{network_at}
-use Rattle.colour_share.specs.Parts.{falls, share_sum, term_residue, AreTurns, IsPartSum, KnowsShare, AllKnow, AreSwept, IsFirstOf, IsFirstStop, IsPartOf, IsPart}
+use Rattle.colour_share.specs.Parts.{falls, share_sum, term_residue, IsPartSum, KnowsShare, AllKnow, AreSwept, IsFirstStop, IsPartOf, IsPart}
 use Rattle.colour_share.specs.Merging.{IsLeast, Fits, IsBoth, IsMerged}
 use Rattle.colour_share.specs.declared.part.Summed.{Summed}
 use Rattle.colour_share.specs.declared.part.PartFault.{PartFault}
 use Rattle.colour_share.specs.declared.part.PartFault.TheVariants.{Stopped, Memory}
-use Rattle.colour_share.proofs.Shares.{falls_left, falls_right, left_falls, right_out, right_falls, share_same, share_le, share_split, residue_sum}
+use Rattle.colour_share.proofs.Shares.{falls_right, right_out, share_same, share_le, share_split, residue_sum}
 
 -- ---- lists of notes
 module _ (table : Table) (diagram : FramedDiagram) (workers n : ℕ) where

@@ -1,9 +1,8 @@
 -- A missing inverse is named exactly where there is one, and only the first.
-use Rattle.std.proofs.Common.{◌≡◌, ℕ, ◌<◌, ◌↔◌, Result, Ok, Err, subst, sym, ap₂}
+use Rattle.std.proofs.Common.{◌≡◌, ℕ, ◌↔◌, Result, Ok, Err, subst, sym, ap₂}
 use Rattle.root_quantum.specs.Parameters.{Parameters}
 use Rattle.root_quantum.specs.Colours.{greatest_colour}
 use Rattle.planar_check.specs.Framings.{FramedDiagram}
-use Rattle.wenzl_table.specs.Inverses.{IsFirstCommon}
 use Rattle.wenzl_table.proofs.FirstCommons.{none_first, one_index, one_common}
 use Rattle.frontier_sweep.specs.declared.fault.SweepFault.TheVariants as sweeps
 use Rattle.kirby_terms.specs.Terms.{HasInverses}

@@ -1,5 +1,5 @@
 -- One colouring more of one worker.
-use Rattle.std.proofs.Common.{◌≡◌, ℕ, suc, ◌+◌, ◌-◌, ◌*◌, ◌%◌, ◌^◌, ◌<◌, ◌≤◌, ◌==◌, Bool, true, false, if◌then◌else◌, pos, ◌+ℤ◌, refl, sym, ap, subst, ◌∙◌, add-one, arith, inl, inr}
+use Rattle.std.proofs.Common.{◌≡◌, ℕ, suc, ◌+◌, ◌-◌, ◌*◌, ◌%◌, ◌^◌, ◌<◌, ◌≤◌, ◌==◌, true, if◌then◌else◌, pos, ◌+ℤ◌, refl, sym, ap, subst, ◌∙◌, add-one, arith, inl, inr}
 use Rattle.std.specs.List.{Contains}
 use Rattle.std.proofs.lemmas.Bool.{cases_lt}
 use Rattle.std.proofs.lemmas.Bool.Decides.{nat_tests}
@@ -8,12 +8,10 @@ use Rattle.ring_identities.proofs.Congruences.{residue_small}
 use Rattle.root_quantum.specs.Parameters.{Parameters}
 use Rattle.planar_check.specs.Framings.{FramedDiagram}
 use Rattle.frontier_laws.specs.Orders.{View}
-use Rattle.frontier_sweep.specs.Sweeps.{IsSwept, IsStopped}
-use Rattle.frontier_sweep.specs.declared.fault.SweepFault.{SweepFault}
-use Rattle.wenzl_table.specs.Tables.{Table, Notes, IsOf, Keeps, Knows, known}
+use Rattle.frontier_sweep.specs.Sweeps.{IsSwept}
+use Rattle.wenzl_table.specs.Tables.{Table, Notes, IsOf, Keeps, Knows}
 use Rattle.kirby_terms.specs.Terms.{term_at, network_at, chosen_colours}
-use Rattle.colour_share.specs.Parts.{falls, share_sum, term_residue, AreTurns, IsPartSum, KnowsShare, AreSwept, IsFirstOf, IsFirstStop}
-use Rattle.colour_share.specs.declared.part.PartFault.TheVariants.{Stopped}
+use Rattle.colour_share.specs.Parts.{falls, share_sum, term_residue, IsPartSum, KnowsShare, IsFirstOf}
 use Rattle.colour_share.proofs.Shares.{falls_in, falls_out, falls_one, share_same, share_le, share_in, share_out, residue_sum, own_residue}
 
 -- the numbers with one more

@@ -1,5 +1,5 @@
 -- All workers together: the whole sum, and the first limit.
-use Rattle.std.proofs.Common.{◌≡◌, ◌≢◌, ◌⊎◌, ℕ, zero, suc, ◌+◌, ◌-◌, ◌%◌, ◌<◌, ◌≤◌, Bool, true, false, if◌then◌else◌, List, [], length, take, take_all, get_or, Some, Result, Ok, Err, ℤ, pos, ◌+ℤ◌, ◌*ℤ◌, refl, sym, ap, ap₂, subst, ◌∙◌, add-one, arith, inl, inr, slice_get}
+use Rattle.std.proofs.Common.{◌≡◌, ◌≢◌, ℕ, zero, suc, ◌+◌, ◌-◌, ◌<◌, ◌≤◌, List, [], length, take, take_all, get_or, Result, Ok, Err, ℤ, pos, ◌+ℤ◌, ◌*ℤ◌, refl, sym, ap, ap₂, subst, ◌∙◌, add-one, arith, inl, inr}
 use Rattle.std.specs.List.{Contains}
 use Rattle.std.proofs.lemmas.Bool.{cases_lt}
 use Rattle.ring_identities.specs.Residues.{residue}
@@ -7,24 +7,23 @@ use Rattle.ring_identities.proofs.Congruences.{residue_below, residue_small}
 use Rattle.root_quantum.specs.Parameters.{Parameters}
 use Rattle.root_quantum.specs.Colours.{form_colours}
 use Rattle.planar_check.specs.Framings.{FramedDiagram}
-use Rattle.planar_check.specs.Components.{least_labels}
 use Rattle.frontier_laws.specs.Orders.{View}
 use Rattle.frontier_laws.specs.Views.{IsNext}
 use Rattle.frontier_sweep.specs.SweepResults.{sweep}
-use Rattle.frontier_sweep.specs.Sweeps.{IsSwept, IsStopped}
+use Rattle.frontier_sweep.specs.Sweeps.{IsSwept}
 use Rattle.frontier_sweep.specs.declared.fault.SweepFault.{SweepFault}
 use Rattle.frontier_sweep.specs.declared.fault.SweepFault.TheVariants as sweeps
 use Rattle.frontier_sweep.proofs.SweepResults.{swept_by, stopped_by}
 use Rattle.wenzl_table.specs.Tables.{Table, Notes}
 use Rattle.coloured_values.specs.Coloured.{framed}
 use Rattle.coloured_values.specs.Surgery.{kirby, deltas, sum_over, colour_lists, component_count}
-use Rattle.kirby_terms.specs.Terms.{term_at, network_at, chosen_colours, colouring_total}
+use Rattle.kirby_terms.specs.Terms.{network_at, chosen_colours, colouring_total}
 use Rattle.kirby_terms.proofs.ColourLists.{lists_count}
 use Rattle.kirby_terms.proofs.Sums.{no_sum, sum_more}
 use Rattle.colour_share.specs.ResultSums.{result_plus, result_sum}
 use Rattle.colour_share.specs.Turns.{refusal_at, numbered, colouring_turns, kirby_turns}
-use Rattle.colour_share.specs.Parts.{falls, share_sum, term_residue, IsPartSum, KnowsShare, AllKnow, AreSwept, IsFirstOf, IsFirstStop}
-use Rattle.colour_share.specs.Sums.{sum_to, IsTurnCount, KnowsOwn, AllKnowOwn, IsLimited, IsStoppedSum, IsFirstLimit, fault_of}
+use Rattle.colour_share.specs.Parts.{share_sum, term_residue, IsPartSum, AllKnow, IsFirstStop}
+use Rattle.colour_share.specs.Sums.{sum_to, IsTurnCount, AllKnowOwn, IsLimited, IsStoppedSum, IsFirstLimit, fault_of}
 use Rattle.colour_share.specs.declared.fault.SumFault.{SumFault}
 use Rattle.colour_share.specs.declared.fault.SumFault.TheVariants as faults
 use Rattle.colour_share.specs.declared.part.PartFault.{PartFault}

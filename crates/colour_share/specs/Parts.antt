@@ -11,7 +11,7 @@
 --     AreSwept answers p diagram workers from to n          none of these colourings meets a limit
 --     IsFirstStop answers p diagram workers from to n fault     the fault is that of the first of them that is not swept
 --     IsPart table answers diagram workers from to n result     the whole result of these workers
-use Rattle.std.specs.Prelude.{◌≡◌, ℕ, zero, suc, ◌+◌, ◌-◌, ◌%◌, ◌^◌, ◌<◌, ◌≤◌, ◌&&◌, nat_le, nat_lt, Bool, true, if◌then◌else◌, pos, List, length, slice_get, Option, Some, Result, Ok, Err, MatchResult}
+use Rattle.std.specs.Prelude.{◌≡◌, ℕ, zero, suc, ◌+◌, ◌-◌, ◌%◌, ◌^◌, ◌<◌, ◌≤◌, ◌&&◌, nat_le, nat_lt, Bool, true, if◌then◌else◌, pos, List, length, slice_get, Some, Result, MatchResult}
 use Rattle.std.specs.List.{Contains}
 use Rattle.ring_identities.specs.Residues.{residue}
 use Rattle.root_quantum.specs.Parameters.{Parameters}

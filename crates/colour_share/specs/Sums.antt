@@ -10,7 +10,7 @@
 --     IsLimited answers p diagram index fault   the sweep of that colouring meets this limit, and no colouring before meets one
 --     IsStoppedSum answers p diagram fault  the same, by the fault
 --     IsFirstLimit next p diagram fault     the fault is that of `kirby_turns`, if it is a limit
-use Rattle.std.specs.Prelude.{◌≡◌, ℕ, zero, suc, ◌+◌, ◌-◌, ◌<◌, ◌≤◌, ⊤, List, slice_get, Some, Result, Ok, Err}
+use Rattle.std.specs.Prelude.{◌≡◌, ℕ, zero, suc, ◌+◌, ◌-◌, ◌<◌, ◌≤◌, ⊤, List, slice_get, Some, Err}
 use Rattle.std.specs.List.{Contains}
 use Rattle.root_quantum.specs.Parameters.{Parameters}
 use Rattle.root_quantum.specs.Colours.{greatest_colour}

@@ -3,14 +3,6 @@
 use frontier_sweep::SweepFault;
 use wenzl_table::Notes;
 
-/// What one worker comes to: the sum of the terms of its colourings, their turns, and what it knows of the table.
-#[derive(Drop)]
-pub(crate) struct Worked {
-    pub(crate) value: u64,
-    pub(crate) turns: u128,
-    pub(crate) notes: Notes,
-}
-
 /// What workers come to: the sum of the terms of their colourings, as a residue, the turns of all of them, and the notes of each
 /// worker in order.
 #[derive(Drop)]

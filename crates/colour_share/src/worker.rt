@@ -1,12 +1,12 @@
 //! What one worker does.
 
-ghost use Rattle.std.specs.Prelude.{◌≡◌, ◌+◌, ◌<◌, ◌≤◌, ℕ, IfOk, IfErr};
+ghost use Rattle.std.specs.Prelude.{◌≡◌, ◌+◌, ◌<◌, ◌≤◌};
 ghost use Rattle.root_quantum.specs.Colours.{greatest_colour};
 ghost use Rattle.kirby_terms.specs.Terms.{colouring_total, HasInverses};
-ghost use Rattle.colour_share.specs.Parts.{IsPartSum, KnowsShare, IsFirstStop, IsPart};
+ghost use Rattle.colour_share.specs.Parts.{IsPart};
 
 use crate::gate::Gate;
-use crate::part::{PartFault, Summed, Worked};
+use crate::part::{PartFault, Summed};
 use arc_pairing::Turns;
 use frontier_sweep::{Choose, Chooser};
 use kirby_terms::term;
@@ -14,8 +14,9 @@ use planar_check::Framed;
 use std::alloc::Global;
 use wenzl_table::Table;
 
-/// The sum over the colourings of one worker of so many, which counts from 0. It passes the gate before each.
-fn work<G: Gate, C: Choose>(
+/// The sum over the colourings of one worker of so many, which counts from 0, with its notes as a list. It passes the gate
+/// before each.
+pub(crate) fn work_alone<G: Gate, C: Choose>(
     alloc: Global,
     framed: &Framed,
     table: &Table,
@@ -24,16 +25,14 @@ fn work<G: Gate, C: Choose>(
     total: u64,
     workers: u32,
     worker: u32,
-) -> Result<Worked, PartFault>
+) -> Result<Summed, PartFault>
     requires top { greatest_colour table.now.params ≤ table.now.top }
     requires inverses { HasInverses table.now.params framed.now }
     requires total { total ≡ colouring_total table.now.params framed.now }
     requires few { total ≤ 65536 }
     requires worker { worker < workers }
     requires workers { workers ≤ 64 }
-    ensures sum { IfOk result (λ worked. IsPartSum (C.answers chooser.now) table.now.params framed.now workers worker (worker + 1) total worked.value worked.turns) }
-    ensures notes { IfOk result (λ worked. KnowsShare table.now framed.now workers worker total worked.notes) }
-    ensures fault { IfErr result (IsFirstStop (C.answers chooser.now) table.now.params framed.now workers worker (worker + 1) total) }
+    ensures { IsPart (C.answers chooser.now) table.now framed.now workers worker (worker + 1) total result }
 {
     let ring = table.params().ring();
     let Ok(mut notes) = table.notes(alloc) else {
@@ -57,39 +56,12 @@ fn work<G: Gate, C: Choose>(
             }
         }
     }
-    Ok(Worked {
-        value,
-        turns,
-        notes,
-    })
-}
-
-/// The same, with the notes in a list.
-pub(crate) fn work_alone<G: Gate, C: Choose>(
-    alloc: Global,
-    framed: &Framed,
-    table: &Table,
-    chooser: &Chooser<C>,
-    gate: &G,
-    total: u64,
-    workers: u32,
-    worker: u32,
-) -> Result<Summed, PartFault>
-    requires top { greatest_colour table.now.params ≤ table.now.top }
-    requires inverses { HasInverses table.now.params framed.now }
-    requires total { total ≡ colouring_total table.now.params framed.now }
-    requires few { total ≤ 65536 }
-    requires worker { worker < workers }
-    requires workers { workers ≤ 64 }
-    ensures { IsPart (C.answers chooser.now) table.now framed.now workers worker (worker + 1) total result }
-{
-    let worked = work(alloc, framed, table, chooser, gate, total, workers, worker)?;
-    let mut notes = Vec::new(alloc);
-    match notes.push(worked.notes) {
+    let mut list = Vec::new(alloc);
+    match list.push(notes) {
         Ok(()) => Ok(Summed {
-            value: worked.value,
-            turns: worked.turns,
-            notes,
+            value,
+            turns,
+            notes: list,
         }),
         Err(_) => Err(PartFault::Memory),
     }

@@ -2,7 +2,7 @@
 use Rattle.std.proofs.Common.{◌≡◌, ℕ, zero, suc, ◌+◌, ◌-◌, ◌%◌, ◌<◌, ◌≤◌, ◌==◌, ◌&&◌, ◌||◌, not, nat_le, Bool, true, false, cond, List, [], ◌∷◌, length, slice_index, Some, None, Ok, sym, ap, ◌∙◌, arith, ⊎_elim, subst}
 use Rattle.std.specs.List.{AllByRecursion, find}
 use Rattle.std.specs.Set.{is_member}
-use Rattle.std.proofs.lemmas.Bool.{cases_Bool, cases_eq, and_parts, eqb-true, or_cases}
+use Rattle.std.proofs.lemmas.Bool.{cases_Bool, cases_eq, and_parts, eqb-true}
 use Rattle.std.proofs.lemmas.Bool.Decides.{nat_tests}
 use Rattle.list_lemmas.specs.Times.{times_in}
 use Rattle.list_lemmas.proofs.Times.{member_of_times, times_of_member}
@@ -17,19 +17,20 @@ use Rattle.script_reader.specs.declared.step.Step.TheVariants.{R3}
 use Rattle.cables.specs.Nets.{HasProjector}
 use Rattle.coloured_values.specs.Coloured.{colour_of, is_boxed, coloured}
 use Rattle.coloured_values.specs.Laws.{HasColours}
-use Rattle.diagram_moves.specs.declared.fault.MoveFault.TheVariants.{NoCrossing, NotTriangle}
 use Rattle.diagram_moves.specs.Moves.{move, plain, finished, slot_triples, is_triangle, triangle_rewritten}
 use Rattle.diagram_moves.specs.Rewriting.{slot, crossing_at}
 use Rattle.diagram_moves.specs.Steps.{Moved}
-use Rattle.diagram_moves.proofs.Accepted.{given_Ok, unless_Ok, finished_Ok, finished_few, passing_test, small_triple, low_triple, small_triples}
+use Rattle.diagram_moves.proofs.Accepted.{finished_Ok, finished_few}
+use Rattle.diagram_moves.proofs.Results.{slide_accepted}
 use Rattle.move_results.proofs.PairedResults.{paired_again, triangle_edges}
 use Rattle.piece_laws.proofs.ParameterNumbers.{skein_numbers}
 use Rattle.root_quantum.specs.QuantumNumbers.{loop_value, inverse_root}
-use Rattle.coloured_moves.specs.Anchors.{first_anchor, inner_edges, labels_of}
+use Rattle.diagram_moves.specs.Anchors.{first_anchor, inner_edges, labels_of}
 use Rattle.coloured_moves.specs.Laws.{ColouredSlideLaw, NoAnchorLaw, FirstAnchorLaw}
-use Rattle.coloured_moves.proofs.Below.{as_paired, each_label}
-use Rattle.coloured_moves.proofs.BelowTriangle.{after_members}
-use Rattle.coloured_moves.proofs.LabelColours.{slot_label}
+use Rattle.coloured_values.proofs.ColouredLaws.{each_label}
+use Rattle.move_results.proofs.DiagramResults.{as_paired}
+use Rattle.move_results.proofs.TriangleComponents.{after_members}
+use Rattle.coloured_moves.proofs.LabelColours.{label_in, slot_label}
 use Rattle.coloured_moves.proofs.SlidCables.{slid_coloured}
 
 -- ---- boxes inside
@@ -138,14 +139,10 @@ entry P [] i h l = absurd (omega (arith, l))
 entry P (n ∷ ns) zero h l = h.0
 entry P (n ∷ ns) (suc i) h l = entry P ns i h.1 l
 
-boxed_projector : (p : Parameters) (items : List Item) (colours : List ℕ) → AllByRecursion (HasProjector p) colours → (x : ℕ) → is_boxed items colours x ≡ true → HasProjector p (colour_of items colours x)
+pub boxed_projector : (p : Parameters) (items : List Item) (colours : List ℕ) → AllByRecursion (HasProjector p) colours → (x : ℕ) → is_boxed items colours x ≡ true → HasProjector p (colour_of items colours x)
 boxed_projector p items colours all x b =
     let t = (and_parts (nat_le 2 (colour_of items colours x)) (component_least items x == x) b).0 in
     entry (HasProjector p) colours (number_of items x - 1) all (grind (arith, nat_tests, t))
-
-label_of : (P : ℕ → Type 0) (ls : List ℕ) → AllByRecursion P ls → (x : ℕ) → is_member ◌==◌ ls x ≡ true → P x
-label_of P [] h x m = absurd (grind (arith, m))
-label_of P (l ∷ ls) h x m = ⊎_elim (λ t. let Q : ℕ → Type 0 = P in subst Q (sym (eqb-true x l t)) h.0) (λ t. label_of P ls h.1 x t) (or_cases (x == l) (is_member ◌==◌ ls x) m)
 
 -- ---- the move as it is found
 module _ (p : Parameters) (items : List Item) (is : IsDiagram items) (colours : List ℕ) (has : HasColours items colours) (projectors : AllByRecursion (HasProjector p) colours) (step_c step_d step_f : ℕ) (moved : Moved)
@@ -195,7 +192,7 @@ module _ (p : Parameters) (items : List Item) (is : IsDiagram items) (colours : 
           in_range = each_label IsLabel (labels item_labels after) (λ x m. (
               let one = times_of_member x (labels item_labels after) m in
               let e = after_members p.modulus (loop_value p) p.root (inverse_root p) (skein_numbers p).skein items (as_paired items is) c here found d there also f beyond too dc fc fd (s + 3) t u (omega (arith, low_s)) (omega (arith, low_t)) (omega (arith, low_u)) edges.0 edges.1 edges.2 x in
-              label_of IsLabel (labels item_labels items) is.in_range x (member_of_times x (labels item_labels items) (omega (arith, one, e)))));
+              label_in IsLabel (labels item_labels items) is.in_range x (member_of_times x (labels item_labels items) (omega (arith, one, e)))));
           twice = subst Q result paired.twice;
         }
 
@@ -208,47 +205,39 @@ module _ (p : Parameters) (items : List Item) (is : IsDiagram items) (colours : 
 -- R3 KEEPS THE COLOURED VALUE
 pub coloured_slide : ColouredSlideLaw
 coloured_slide p items c g f moved colours is has projectors none h =
-    let h1 = given_Ok (crossing_at items c) (NoCrossing c) _ moved h in
-    let h2 = given_Ok (crossing_at items g) (NoCrossing g) _ moved h1.2 in
-    let h3 = given_Ok (crossing_at items f) (NoCrossing f) _ moved h2.2 in
-    let here = h1.0 in let there = h2.0 in let beyond = h3.0 in
-    let h4 = unless_Ok (c == g || (g == f || c == f)) NotTriangle _ moved h3.2 in
-    let either : ℕ × (ℕ × ℕ) → Bool = λ at. is_triangle here there beyond at || is_triangle here beyond there at in
-    let h5 = given_Ok (find either slot_triples) NotTriangle _ moved h4.1 in
-    let at = h5.0 in
-    let test = passing_test either small_triple slot_triples at h5.1 small_triples in
-    let low = low_triple at test.1 in
-    let s = at.0 in let t = at.1.0 in let u = at.1.1 in
+    let r = slide_accepted items c g f moved h in
+    let here = r.here in let there = r.there in let beyond = r.beyond in
+    let at = r.at in let s = at.0 in let t = at.1.0 in let u = at.1.1 in
     let one = triangle_rewritten items c g f here there beyond (s + 3) t u in
     let other = triangle_rewritten items c f g here beyond there (s + 3) t u in
-    let distinct = h4.0 in
+    let distinct = r.distinct in
     let third : Bool → ℕ = λ b. cond b (slot there (t + 1)) (slot beyond (t + 1)) in
     -- the inner edges, as they are found
     let are : inner_edges items (R3 c g f) ≡ slot here s ∷ slot here (s + 3) ∷ third (is_triangle here there beyond at) ∷ [] =
     ap (λ o. labels_of o (λ x. labels_of (crossing_at items g) (λ y. labels_of (crossing_at items f) (λ z. labels_of (find (λ at. is_triangle x y z at || is_triangle x z y at) slot_triples) (λ at.
-    slot x at.0 ∷ slot x (at.0 + 3) ∷ cond (is_triangle x y z at) (slot y (at.1.0 + 1)) (slot z (at.1.0 + 1)) ∷ []))))) h1.1
+    slot x at.0 ∷ slot x (at.0 + 3) ∷ cond (is_triangle x y z at) (slot y (at.1.0 + 1)) (slot z (at.1.0 + 1)) ∷ []))))) r.at_c
     ∙ ap (λ o. labels_of o (λ y. labels_of (crossing_at items f) (λ z. labels_of (find (λ at. is_triangle here y z at || is_triangle here z y at) slot_triples) (λ at.
-    slot here at.0 ∷ slot here (at.0 + 3) ∷ cond (is_triangle here y z at) (slot y (at.1.0 + 1)) (slot z (at.1.0 + 1)) ∷ [])))) h2.1
+    slot here at.0 ∷ slot here (at.0 + 3) ∷ cond (is_triangle here y z at) (slot y (at.1.0 + 1)) (slot z (at.1.0 + 1)) ∷ [])))) r.at_g
     ∙ ap (λ o. labels_of o (λ z. labels_of (find (λ at. is_triangle here there z at || is_triangle here z there at) slot_triples) (λ at.
-    slot here at.0 ∷ slot here (at.0 + 3) ∷ cond (is_triangle here there z at) (slot there (at.1.0 + 1)) (slot z (at.1.0 + 1)) ∷ []))) h3.1
-    ∙ ap (λ o. labels_of o (λ at. slot here at.0 ∷ slot here (at.0 + 3) ∷ cond (is_triangle here there beyond at) (slot there (at.1.0 + 1)) (slot beyond (at.1.0 + 1)) ∷ [])) h5.1 in
+    slot here at.0 ∷ slot here (at.0 + 3) ∷ cond (is_triangle here there z at) (slot there (at.1.0 + 1)) (slot z (at.1.0 + 1)) ∷ []))) r.at_f
+    ∙ ap (λ o. labels_of o (λ at. slot here at.0 ∷ slot here (at.0 + 3) ∷ cond (is_triangle here there beyond at) (slot there (at.1.0 + 1)) (slot beyond (at.1.0 + 1)) ∷ [])) r.found in
     let free : (b : Bool) → is_triangle here there beyond at ≡ b → (x : ℕ) → is_member ◌==◌ (slot here s ∷ slot here (s + 3) ∷ third b ∷ []) x ≡ true → is_member ◌==◌ (labels item_labels items) x ≡ true → is_boxed items colours x ≡ false =
     λ b e x m there. no_anchor items colours (R3 c g f) is.sizes has.count none x (ap (λ ls. is_member ◌==◌ ls x) (are ∙ ap (λ k. slot here s ∷ slot here (s + 3) ∷ third k ∷ []) e) ∙ m) there in
-    let label_here = slot_label items is.sizes c here h1.1 in
+    let label_here = slot_label items is.sizes c here r.at_c in
     ⊎_elim
     (λ yes.
-    let done = sym (ap (λ z. finished plain (cond z one other)) yes) ∙ h5.2 in
-    found_coloured p items is colours has projectors c g f moved h c here h1.1 g there h2.1 f beyond h3.1 distinct s t u low.0 low.1 low.2 yes (finished_Ok plain one moved done) (finished_few plain one moved done)
+    let done = sym (ap (λ z. finished plain (cond z one other)) yes) ∙ r.finishes in
+    found_coloured p items is colours has projectors c g f moved h c here r.at_c g there r.at_g f beyond r.at_f distinct s t u r.low.0 r.low.1 r.low.2 yes (finished_Ok plain one moved done) (finished_few plain one moved done)
     (free true yes (slot here s) (at_first (slot here s) (slot here (s + 3)) (slot there (t + 1))) (label_here s))
-    (free true yes (slot there (t + 1)) (at_third (slot here s) (slot here (s + 3)) (slot there (t + 1))) (slot_label items is.sizes g there h2.1 (t + 1)))
+    (free true yes (slot there (t + 1)) (at_third (slot here s) (slot here (s + 3)) (slot there (t + 1))) (slot_label items is.sizes g there r.at_g (t + 1)))
     (free true yes (slot here (s + 3)) (at_second (slot here s) (slot here (s + 3)) (slot there (t + 1))) (label_here (s + 3))))
     (λ no.
-    let done = sym (ap (λ z. finished plain (cond z one other)) no) ∙ h5.2 in
+    let done = sym (ap (λ z. finished plain (cond z one other)) no) ∙ r.finishes in
     let turned : (c == f || (f == g || c == g)) ≡ false = grind (arith, nat_tests, distinct) in
-    let yes : is_triangle here beyond there at ≡ true = (let e = test.0 in grind (arith, e, no)) in
-    found_coloured p items is colours has projectors c g f moved h c here h1.1 f beyond h3.1 g there h2.1 turned s t u low.0 low.1 low.2 yes (finished_Ok plain other moved done) (finished_few plain other moved done)
+    let yes : is_triangle here beyond there at ≡ true = (let e = r.test in grind (arith, e, no)) in
+    found_coloured p items is colours has projectors c g f moved h c here r.at_c f beyond r.at_f g there r.at_g turned s t u r.low.0 r.low.1 r.low.2 yes (finished_Ok plain other moved done) (finished_few plain other moved done)
     (free false no (slot here s) (at_first (slot here s) (slot here (s + 3)) (slot beyond (t + 1))) (label_here s))
-    (free false no (slot beyond (t + 1)) (at_third (slot here s) (slot here (s + 3)) (slot beyond (t + 1))) (slot_label items is.sizes f beyond h3.1 (t + 1)))
+    (free false no (slot beyond (t + 1)) (at_third (slot here s) (slot here (s + 3)) (slot beyond (t + 1))) (slot_label items is.sizes f beyond r.at_f (t + 1)))
     (free false no (slot here (s + 3)) (at_second (slot here s) (slot here (s + 3)) (slot beyond (t + 1))) (label_here (s + 3))))
     (cases_Bool (is_triangle here there beyond at))
   where

@@ -33,7 +33,7 @@ shift_le : (b : Bool) → shift b ≤ 1
 shift_le true = omega arith
 shift_le false = omega arith
 
-zip_all : (f : ℕ → ℕ) (xs ys : List ℕ) → ((i : ℕ) → i < length xs → f (slice_index xs i) ≡ f (slice_index ys i)) → AllByRecursion (λ (pair : ℕ × ℕ). f pair.0 ≡ f pair.1) (zip xs ys)
+pub zip_all : (f : ℕ → ℕ) (xs ys : List ℕ) → ((i : ℕ) → i < length xs → f (slice_index xs i) ≡ f (slice_index ys i)) → AllByRecursion (λ (pair : ℕ × ℕ). f pair.0 ≡ f pair.1) (zip xs ys)
 zip_all f [] ys h = tt
 zip_all f (x ∷ xs) [] h = tt
 zip_all f (x ∷ xs) (y ∷ ys) h = (h 0 (omega arith), zip_all f xs ys (λ i l. h (suc i) (omega (arith, l))))

@@ -8,7 +8,7 @@ use Rattle.std.proofs.lemmas.Bool.Decides.{nat_tests}
 use Rattle.std.proofs.lemmas.List.{map-append}
 use Rattle.graph_parts.proofs.Distinct.{is_member-append}
 use Rattle.list_lemmas.specs.Times.{times_in}
-use Rattle.list_lemmas.proofs.Times.{times_in-append, times_in-cons}
+use Rattle.list_lemmas.proofs.Times.{times_in-append, times_in-cons, times_none, times_of_member}
 use Rattle.state_sums.specs.Networks.{Node}
 use Rattle.root_quantum.specs.Parameters.{Parameters}
 use Rattle.pd_reader.specs.declared.item.Item.{Item}
@@ -225,7 +225,7 @@ none_seen seen (x ∷ ls) l m =
     other l x true d = odd l x
     other l x false d = away (2 * l) (2 * x + 0) (λ e. d (omega (arith, e)))
 
-both_stubs : (seen ls : List ℕ) (l : ℕ) → times_in (stubs seen ls) (2 * l) + times_in (stubs seen ls) (2 * l + 1) ≡ times_in ls l
+pub both_stubs : (seen ls : List ℕ) (l : ℕ) → times_in (stubs seen ls) (2 * l) + times_in (stubs seen ls) (2 * l + 1) ≡ times_in ls l
 both_stubs seen [] l = refl
 both_stubs seen (x ∷ ls) l =
     let a = times_in-cons (stub seen x) (stubs (x ∷ seen) ls) (2 * l) in
@@ -306,3 +306,27 @@ stubs_once ls twice w =
 
     parity : (w : ℕ) → {P : Type 0} → (w % 2 ≡ 0 → P) → (w % 2 ≡ 1 → P) → P
     parity w f g = ⊎_elim (λ t. f t) (λ t. g (omega (arith, t))) (cases_eq (w % 2) 0)
+
+-- the stubs of the labels that stand there, and no others
+pub stubs_times : (ls : List ℕ) → ((l : ℕ) → 1 ≤ times_in ls l → times_in ls l ≡ 2) → (w : ℕ) → times_in (stubs [] ls) w ≡ cond (is_member ◌==◌ ls (half w)) 1 0
+stubs_times ls twice w =
+    let l = half w in
+    let both = both_stubs [] ls l in
+    let a = stubs_once ls twice (2 * l) in
+    let b = stubs_once ls twice (2 * l + 1) in
+    let T : ℕ → ℕ = times_in (stubs [] ls) in
+    ⊎_elim
+    (λ t.
+    let two = twice l (times_of_member l ls t) in
+    let even : T (2 * l) ≡ 1 = omega (arith, both, a, b, two) in
+    let odd : T (2 * l + 1) ≡ 1 = omega (arith, both, a, b, two) in
+    side w (λ e. ap T e ∙ even) (λ e. ap T e ∙ odd) ∙ sym (ap (λ h. cond h 1 0) t))
+    (λ t.
+    let none = times_none ls l t in
+    let even : T (2 * l) ≡ 0 = omega (arith, both, none) in
+    let odd : T (2 * l + 1) ≡ 0 = omega (arith, both, none) in
+    side w (λ e. ap T e ∙ even) (λ e. ap T e ∙ odd) ∙ sym (ap (λ h. cond h 1 0) t))
+    (cases_Bool (is_member ◌==◌ ls l))
+  where
+    side : (w : ℕ) → {P : Type 0} → (w ≡ 2 * half w → P) → (w ≡ 2 * half w + 1 → P) → P
+    side w f g = ⊎_elim (λ t. f (omega (arith, t))) (λ t. g (omega (arith, t))) (cases_eq (w % 2) 0)

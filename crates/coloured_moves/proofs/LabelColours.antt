@@ -2,7 +2,7 @@
 use Rattle.std.proofs.Common.{◌≡◌, ◌≢◌, ℕ, ◌+◌, ◌-◌, ◌%◌, ◌<◌, ◌==◌, nat_le, Bool, true, false, cond, List, [], ◌∷◌, length, reverse, slice_index, count_by, Some, refl, sym, ap, ap₂, ◌∙◌, arith, ⊎_elim, subst}
 use Rattle.std.specs.List.{AllByRecursion}
 use Rattle.std.specs.Set.{is_member}
-use Rattle.std.proofs.lemmas.Bool.{cases_Bool, eqb-true, or_left, or_right}
+use Rattle.std.proofs.lemmas.Bool.{cases_Bool, eqb-true, or_cases, or_left, or_right}
 use Rattle.std.proofs.lemmas.Bool.Decides.{nat_tests}
 use Rattle.std.proofs.lemmas.List.{reverse-reverse}
 use Rattle.graph_parts.specs.Walks.{Joined}
@@ -14,15 +14,21 @@ use Rattle.pd_reader.specs.declared.item.Item.TheVariants as item
 use Rattle.pd_reader.specs.Items.{item_labels, HasItsSlots}
 use Rattle.pd_reader.specs.Diagrams.{labels}
 use Rattle.planar_check.specs.Components.{strand_edges, component_least, least_labels}
-use Rattle.cables.specs.Cables.{loop_count, loops_at, as_net}
+use Rattle.cables.specs.Cables.{loop_count, loops_at, Fits, as_net}
+use Rattle.cables.specs.Nets.{projector_of}
+use Rattle.cables.proofs.NumberedStrands.{first_length}
+use Rattle.root_quantum.specs.Parameters.{Parameters}
 use Rattle.cables.specs.Strands.{Strands}
-use Rattle.coloured_values.specs.Coloured.{colour_of}
+use Rattle.coloured_values.specs.Coloured.{colour_of, is_boxed, diagram_strands}
+use Rattle.coloured_values.proofs.CabledDiagrams.{same_least, fits_from}
 use Rattle.diagram_moves.specs.Rewriting.{slot, crossing_at, crossing_from, crossing_labels}
 use Rattle.diagram_moves.proofs.Nodes.{none_some, picked_size}
-use Rattle.diagram_moves.proofs.Paired.{loop_labels}
+use Rattle.diagram_moves.specs.Laws.{IsPairedDiagram}
+use Rattle.diagram_moves.proofs.Paired.{loop_labels, times_labels, twice_in_all}
+use Rattle.list_lemmas.proofs.Times.{times_of_member}
 use Rattle.diagram_moves.proofs.Pushing.{crossing_label}
 use Rattle.move_results.proofs.ClosedComponents.{crossing_walks}
-use Rattle.coloured_moves.proofs.Below.{least_is}
+use Rattle.move_results.proofs.LeastLabelLists.{least_is}
 use Rattle.coloured_moves.proofs.StubItems.{half, at_stub}
 
 -- ONE COMPONENT, ONE COLOUR
@@ -97,3 +103,22 @@ loop_count_labels strands (item.Loop l ∷ rest) = ap (λ n. loops_at (strands.f
 pub counts_same : (strands others : Strands) (ls : List ℕ) → AllByRecursion (λ l. others.first l ≡ strands.first l) ls → counts others ls ≡ counts strands ls
 counts_same strands others [] h = refl
 counts_same strands others (l ∷ ls) h = ap₂ (λ x y. x + y) (ap loops_at h.0) (counts_same strands others ls h.1)
+
+-- ---- labels of a diagram
+pub label_in : (P : ℕ → Type 0) (ls : List ℕ) → AllByRecursion P ls → (x : ℕ) → is_member ◌==◌ ls x ≡ true → P x
+label_in P [] h x m = absurd (grind (arith, m))
+label_in P (l ∷ ls) h x m = ⊎_elim (λ t. subst P (sym (eqb-true x l t)) h.0) (λ t. label_in P ls h.1 x t) (or_cases (x == l) (is_member ◌==◌ ls x) m)
+
+-- a loop's label stands at no crossing
+pub loop_out : (items : List Item) → IsPairedDiagram items → (l : ℕ) → is_member ◌==◌ (loop_labels items) l ≡ true → is_member ◌==◌ (crossing_labels items) l ≡ false
+loop_out items pd l m =
+    let t = times_labels items l in
+    let one = times_of_member l (loop_labels items) m in
+    let two = twice_in_all items pd l (omega (arith, t, one)) in
+    ⊎_elim (λ s. absurd (let o = times_of_member l (crossing_labels items) s in omega (arith, t, one, two, o))) (λ s. s) (cases_Bool (is_member ◌==◌ (crossing_labels items) l))
+
+-- opposite slots of each crossing have as many strands
+pub diagram_fits : (p : Parameters) (items : List Item) → AllByRecursion HasItsSlots items → (colours : List ℕ) → AllByRecursion (Fits (diagram_strands p items colours)) (as_net items)
+diagram_fits p items sizes colours =
+    let long : (l : ℕ) → length ((diagram_strands p items colours).first l) ≡ colour_of items colours l = λ l. first_length (colour_of items colours) (is_boxed items colours) (projector_of p) l in
+    fits_from (diagram_strands p items colours) items sizes (λ x y e mx my. long x ∙ same_component items colours x y (same_least items sizes x y e mx my) ∙ sym (long y))

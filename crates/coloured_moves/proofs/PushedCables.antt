@@ -44,10 +44,10 @@ use Rattle.move_results.proofs.LeastLabelLists.{Contracts}
 use Rattle.piece_laws.proofs.ParameterNumbers.{skein_numbers}
 use Rattle.diagram_moves.proofs.Paired.{paired}
 use Rattle.diagram_moves.proofs.PlaceLemmas.{one_place, sizes-at_places, fresh_above, crossing_labels-at_places, length-map_from, slice_index-map_from}
-use Rattle.diagram_moves.proofs.Pushing.{new_four, crossing_label, label, label_n, label_n1, label_n2, label_n3, low_e, low_f, sizes-pushed}
-use Rattle.move_results.proofs.PushedComponents.{total, pushed_components}
+use Rattle.diagram_moves.proofs.Pushing.{cut_times, new_four, crossing_label, label, label_n, label_n1, label_n2, label_n3, low_e, low_f, sizes-pushed}
+use Rattle.move_results.proofs.PushedComponents.{total, pushed_contracts, pushed_components}
 use Rattle.pd_reader.specs.declared.item.Item.TheVariants as item
-use Rattle.coloured_moves.proofs.Below.{all_labels, cut_times, pushed_contracts}
+use Rattle.coloured_values.proofs.ColouredLaws.{all_labels}
 use Rattle.cable_crossings.proofs.BundleTurns.{runs_exchanged}
 use Rattle.cable_crossings.proofs.CabledBigon.{zip-times, names_of_arcs}
 use Rattle.cable_crossings.proofs.CabledStrands.{cabled_strands, ends_twice}

@@ -1,5 +1,5 @@
 -- Labels that are contracted keep their component.
-use Rattle.std.proofs.Common.{◌≡◌, ℕ, zero, suc, [], ◌∷◌, Contains, ◌<◌, ◌==◌, ◌&&◌, nat_le, ◌-◌, Bool, true, false, List, count_by, slice_index, sym, ap, ap₂, ◌∙◌, arith}
+use Rattle.std.proofs.Common.{◌≡◌, ℕ, zero, suc, [], ◌∷◌, Contains, ◌<◌, ◌==◌, ◌&&◌, nat_le, ◌-◌, Bool, true, false, List, length, count_by, slice_index, refl, sym, ap, ap₂, ◌∙◌, arith}
 use Rattle.std.specs.List.{AllByRecursion}
 use Rattle.std.specs.Set.{is_member}
 use Rattle.std.proofs.lemmas.Bool.{eqb-true, and_parts}
@@ -12,9 +12,17 @@ use Rattle.pd_reader.specs.declared.item.Item.{Item}
 use Rattle.pd_reader.specs.Items.{item_labels, HasItsSlots}
 use Rattle.pd_reader.specs.Diagrams.{labels}
 use Rattle.planar_check.specs.Components.{strand_edges, component_least, least_labels}
-use Rattle.coloured_values.specs.Coloured.{colour_of, is_boxed}
-use Rattle.move_results.proofs.LeastLabelLists.{Contracts, strands_among, IsLeast, from_least, least_in_big, joined_through}
-use Rattle.coloured_moves.proofs.Below.{least_is}
+use Rattle.root_quantum.specs.Parameters.{Parameters}
+use Rattle.cables.specs.Cables.{cable, Fits, as_net}
+use Rattle.cables.specs.Nets.{projector_of}
+use Rattle.cables.specs.Strands.{first_names, second_names}
+use Rattle.cables.proofs.NumberedStrands.{first_length}
+use Rattle.cables.proofs.SameCables.{AreAlike, same_cable}
+use Rattle.coloured_values.specs.Coloured.{colour_of, is_boxed, diagram_strands}
+use Rattle.coloured_values.proofs.CabledDiagrams.{same_least, fits_from}
+use Rattle.coloured_values.proofs.ColouredLaws.{all_labels}
+use Rattle.coloured_moves.proofs.LabelColours.{same_component}
+use Rattle.move_results.proofs.LeastLabelLists.{Contracts, least_is, strands_among, IsLeast, from_least, least_in_big, joined_through}
 
 ends_at : (p : ℕ → Bool) (es : List (ℕ × ℕ)) (x y : ℕ) → EndsAre p es → Contains es (x, y) → (p x ≡ true) × (p y ≡ true)
 ends_at p [] x y h w = absurd (omega (arith, w.1))
@@ -91,3 +99,23 @@ module _ (big small : List Item) (f : ℕ → ℕ) (c : Contracts big small f) (
       where
         unequal : (t : Bool) (x l : ℕ) → x < l → (t && x == l) ≡ false
         unequal t x l h = grind (arith, nat_tests, h)
+
+    -- ---- the strands of the small diagram
+    kept_colour : (l : ℕ) → is_member ◌==◌ (labels item_labels small) l ≡ true → colour_of big colours l ≡ colour_of small colours l
+    kept_colour l m = contracted_colour l (c.within l m) ∙ ap (colour_of small colours) (c.fixes l m)
+
+    -- ITS CABLE HAS THE BIG DIAGRAM'S STRANDS
+    pub contracted_cable : (p : Parameters) → cable p (diagram_strands p small colours) (as_net small) ≡ cable p (diagram_strands p big colours) (as_net small)
+    contracted_cable p =
+        let own = diagram_strands p small colours in
+        let others = diagram_strands p big colours in
+        same_cable own others refl p (as_net small) (all_labels (AreAlike own others) small (λ l m.
+        let e = sym (kept_colour l m) in
+        let b = sym (contracted_boxed l m) in
+        record { first = ap (λ n. first_names n l) e; second = ap₂ (λ n h. second_names n h l) e b; boxed = b }))
+
+    pub contracted_fits : (p : Parameters) → AllByRecursion (Fits (diagram_strands p big colours)) (as_net small)
+    contracted_fits p =
+        let long : (l : ℕ) → length ((diagram_strands p big colours).first l) ≡ colour_of big colours l = λ l. first_length (colour_of big colours) (is_boxed big colours) (projector_of p) l in
+        fits_from (diagram_strands p big colours) small sizes_small (λ x y e mx my.
+        long x ∙ kept_colour x mx ∙ same_component small colours x y (same_least small sizes_small x y e mx my) ∙ sym (kept_colour y my) ∙ sym (long y))

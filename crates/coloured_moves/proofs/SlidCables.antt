@@ -1,13 +1,12 @@
 -- R3 keeps the coloured value, where no inner edge of the triangle has a box: in the result the places of some labels are exchanged; with
 -- the names of these, its cable is the old one but for three crossings, and these count as before the move.
-use Rattle.std.proofs.Common.{◌≡◌, ◌≢◌, ℕ, suc, ◌+◌, ◌%◌, ◌<◌, ◌≤◌, ◌==◌, ◌&&◌, ◌⊎◌, inl, inr, not, Bool, true, false, cond, List, [], ◌∷◌, ◌++◌, map, length, reverse, slice_index, Some, refl, sym, ap, ap₂, ◌∙◌, arith, ⊎_elim, All, subst, append-nil}
+use Rattle.std.proofs.Common.{◌≡◌, ◌≢◌, ℕ, suc, ◌+◌, ◌%◌, ◌<◌, ◌≤◌, ◌==◌, ◌&&◌, ◌⊎◌, inl, inr, not, Bool, true, false, cond, List, [], ◌∷◌, ◌++◌, length, reverse, slice_index, Some, refl, sym, ap, ap₂, ◌∙◌, arith, ⊎_elim, All, subst}
 use Rattle.std.specs.List.{AllByRecursion}
 use Rattle.std.specs.List.Sorted.{IsPermutation}
 use Rattle.std.specs.Set.{is_member}
 use Rattle.std.proofs.lemmas.Bool.{cases_Bool, eqb-true}
 use Rattle.std.proofs.lemmas.Bool.Decides.{nat_tests}
-use Rattle.std.proofs.lemmas.List.{map-append}
-use Rattle.std.proofs.lemmas.List.Elements.{All-append, All-weaker}
+use Rattle.std.proofs.lemmas.List.Elements.{All-append}
 use Rattle.std.proofs.lemmas.List.Sorted.{All-permutation, IsPermutation-append_left, IsPermutation-map, IsPermutation-trans}
 use Rattle.list_lemmas.specs.Times.{times_in}
 use Rattle.list_lemmas.proofs.Bools.{same_bool}
@@ -19,61 +18,43 @@ use Rattle.state_sums.proofs.NetworkLaws.{any_order}
 use Rattle.root_quantum.specs.Parameters.{Parameters}
 use Rattle.root_quantum.specs.QuantumNumbers.{loop_value, inverse_root}
 use Rattle.piece_laws.proofs.ParameterNumbers.{skein_numbers}
-use Rattle.strand_algebra.specs.Projectors.{IsProjector}
 use Rattle.pd_reader.specs.declared.item.Item.{Item}
 use Rattle.pd_reader.specs.declared.item.Item.TheVariants as item
-use Rattle.pd_reader.specs.Items.{item_labels, HasItsSlots}
-use Rattle.pd_reader.specs.Diagrams.{labels, IsDiagram}
+use Rattle.pd_reader.specs.Items.{HasItsSlots}
+use Rattle.pd_reader.specs.Diagrams.{IsDiagram}
 use Rattle.planar_check.specs.Components.{least_labels}
-use Rattle.cables.specs.Cables.{start, count_placed, cable, cable_nodes, loop_count, Fits, as_net}
-use Rattle.cables.specs.Laws.{IsSmallNetwork}
+use Rattle.cables.specs.Cables.{count_placed, cable, loop_count, Fits, as_net}
 use Rattle.cables.specs.Nets.{projector_of, HasProjector}
-use Rattle.cables.specs.Strands.{Strands, first_names, second_names}
-use Rattle.cables.proofs.CableIsNodes.{IsGood, cable_good}
-use Rattle.cables.proofs.CableLaws.{cable_network}
-use Rattle.cables.proofs.ExchangedPlaces.{exchanged_places}
+use Rattle.cables.specs.Strands.{Strands}
 use Rattle.cables.proofs.GridNames.{crossing_inner}
-use Rattle.cables.proofs.NameCounts.{times_of-append}
 use Rattle.cables.proofs.NumberedStrands.{as_many_strands, first_length}
 use Rattle.cables.proofs.PlaceNames.{AreAsMany}
 use Rattle.cables.proofs.ProjectorBoxes.{projector_boxes}
-use Rattle.cables.proofs.SameCables.{AreAlike, same_cable}
 use Rattle.coloured_values.specs.Coloured.{colour_of, is_boxed, diagram_strands, coloured}
 use Rattle.coloured_values.specs.Laws.{HasColours}
-use Rattle.coloured_values.proofs.CabledDiagrams.{IsNet-as_net, few_colours, same_least, fits_from}
+use Rattle.coloured_values.proofs.CabledDiagrams.{few_colours}
 use Rattle.diagram_moves.specs.Laws.{IsPairedDiagram}
 use Rattle.diagram_moves.specs.Moves.{triangle_slots, triangle_rewritten}
 use Rattle.diagram_moves.specs.Rewriting.{slot, crossing_at, crossing_labels}
-use Rattle.diagram_moves.proofs.Paired.{times_labels, loop_labels, twice_in_all}
+use Rattle.diagram_moves.proofs.Paired.{times_labels, loop_labels}
 use Rattle.diagram_moves.proofs.Rewritten.{anew, loop_labels-rewritten}
 use Rattle.move_results.proofs.LeastLabelLists.{Contracts}
-use Rattle.move_results.proofs.TriangleComponents.{triangle_components}
-use Rattle.coloured_moves.proofs.Below.{as_paired, each_label, all_labels}
-use Rattle.coloured_moves.proofs.BelowTriangle.{triangle_contracts, after_members}
-use Rattle.cable_crossings.proofs.CabledBigon.{names_of-ungrouped}
+use Rattle.move_results.proofs.TriangleComponents.{after_members, triangle_contracts, triangle_components}
+use Rattle.move_results.proofs.DiagramResults.{as_paired}
 use Rattle.cable_crossings.proofs.CabledTriangle.{three_times, Bundles, cabled_triangle}
 use Rattle.coloured_moves.proofs.CablePulls.{at_c, at_d, at_f, first, second, third, others, three_pulled, by_corner, corner_times, three_reversed}
-use Rattle.coloured_moves.proofs.ExchangedStubs.{second_first, turned_strands, exchanged_stubs, first_after}
-use Rattle.coloured_moves.proofs.LabelColours.{same_component, opposite_colours, long_stub, opposite_stub, counts, loop_count_labels, counts_same}
+use Rattle.coloured_moves.proofs.ExchangedStubs.{halved_stubbed, sizes-stubbed}
+use Rattle.coloured_moves.proofs.LabelColours.{diagram_fits, opposite_colours, long_stub, opposite_stub, counts, loop_count_labels}
 use Rattle.coloured_moves.proofs.PushedCables.{unboxed_second}
-use Rattle.coloured_moves.proofs.SameComponents.{contracted_colour, contracted_boxed}
-use Rattle.cable_crossings.proofs.StepPieces.{member_of_one, All-first, All-second}
-use Rattle.coloured_moves.proofs.StubItems.{half, stubbed, halved, at_stub, stub_crossing, stub_nodes, first_boxes, boxes_of, first_labels, split, others_stay, anew_same, ungrouped_boxes, first_labels_times}
+use Rattle.coloured_moves.proofs.SameComponents.{contracted_cable, contracted_fits}
+use Rattle.cable_crossings.proofs.StepPieces.{All-first, All-second}
+use Rattle.coloured_moves.proofs.StubCables.{stub_cable, stub_cable_ok, stubs_twice}
+use Rattle.coloured_moves.proofs.StubItems.{half, halved, at_stub, stub_crossing, stub_nodes, boxes_of, first_labels, others_stay, anew_same, first_labels_times}
 use Rattle.cable_crossings.proofs.ToldCrossings.{IsTold, retold, told_from}
-use Rattle.coloured_moves.proofs.TurnedBoxes.{names_permuted, boxes_ok, turned_boxes, ungrouped_value}
+use Rattle.coloured_moves.proofs.TurnedBoxes.{names_permuted, boxes_ok}
 use Rattle.coloured_moves.proofs.SlidStubs as slid
 
 -- ---- shapes
-crossing_labels-halved : (items : List Item) → crossing_labels (halved items) ≡ map half (crossing_labels items)
-crossing_labels-halved [] = refl
-crossing_labels-halved (item.X ws ∷ rest) = ap (λ ns. map half ws ++ ns) (crossing_labels-halved rest) ∙ sym (map-append half ws (crossing_labels rest))
-crossing_labels-halved (item.Loop l ∷ rest) = crossing_labels-halved rest
-
-loop_labels-halved : (items : List Item) → loop_labels (halved items) ≡ loop_labels items
-loop_labels-halved [] = refl
-loop_labels-halved (item.X ws ∷ rest) = loop_labels-halved rest
-loop_labels-halved (item.Loop l ∷ rest) = ap (λ ls. l ∷ ls) (loop_labels-halved rest)
-
 count_placed-anew : (h : ℕ → List ℕ → List ℕ) (n : ℕ) (items : List Item) → count_placed (as_net (anew h n items)) ≡ count_placed (as_net items)
 count_placed-anew h n [] = refl
 count_placed-anew h n (item.X ws ∷ rest) = ap suc (count_placed-anew h (n + 1) rest)
@@ -129,36 +110,14 @@ module _ (p : Parameters) (items : List Item) (is : IsDiagram items)
   comps : least_labels after ≡ least_labels items
   comps = triangle_components p.modulus delta p.root (inverse_root p) (skein_numbers p).skein items pd c here found d there also f beyond too apart_dc apart_fc apart_fd k l j k8 l8 j8 edge_0 edge_1 edge_2
 
-  in_items : (x : ℕ) → is_member ◌==◌ (labels item_labels after) x ≡ true → is_member ◌==◌ (labels item_labels items) x ≡ true
-  in_items x m = contracts.within x m
-
-  colour_after : (x : ℕ) → is_member ◌==◌ (labels item_labels items) x ≡ true → colour x ≡ colour_of after colours x
-  colour_after x m = contracted_colour items after (λ z. z) contracts is.sizes after_is.sizes (sym comps) colours x m
-
-  boxed_after : (x : ℕ) → is_member ◌==◌ (labels item_labels after) x ≡ true → boxed x ≡ is_boxed after colours x
-  boxed_after x m = contracted_boxed items after (λ z. z) contracts is.sizes after_is.sizes (sym comps) colours x m
-
-  alike : (x : ℕ) → is_member ◌==◌ (labels item_labels after) x ≡ true → AreAlike (diagram_strands p after colours) S x
-  alike x m =
-      let e = sym (colour_after x (in_items x m)) in
-      let b = sym (boxed_after x m) in
-      record { first = ap (λ n. first_names n x) e; second = ap₂ (λ n t. second_names n t x) e b; boxed = b }
-
   to_S : value p.modulus delta (cable p (diagram_strands p after colours) (as_net after)) ≡ value p.modulus delta (cable p S (as_net after))
-  to_S = ap (value p.modulus delta) (same_cable (diagram_strands p after colours) S refl p (as_net after) (all_labels (AreAlike (diagram_strands p after colours) S) after alike))
+  to_S = ap (value p.modulus delta) (contracted_cable items after (λ z. z) contracts is.sizes after_is.sizes (sym comps) colours p)
 
-  -- ---- both cables are networks
   fits_items : AllByRecursion (Fits S) (as_net items)
-  fits_items = fits_from S items is.sizes (λ x y w mx my. long x ∙ same_component items colours x y (same_least items is.sizes x y w mx my) ∙ sym (long y))
-
-  same_after : (x y : ℕ) → is_member ◌==◌ (labels item_labels after) x ≡ true → is_member ◌==◌ (labels item_labels after) y ≡ true → colour_of after colours x ≡ colour_of after colours y → colour x ≡ colour y
-  same_after x y mx my e = colour_after x (in_items x mx) ∙ e ∙ sym (colour_after y (in_items y my))
+  fits_items = diagram_fits p items is.sizes colours
 
   fits_after : AllByRecursion (Fits S) (as_net after)
-  fits_after = fits_from S after after_is.sizes (λ x y w mx my. long x ∙ same_after x y mx my (same_component after colours x y (same_least after after_is.sizes x y w mx my)) ∙ sym (long y))
-
-  small : IsSmallNetwork p.modulus (cable p S (as_net items))
-  small = cable_network p colour boxed (projector_of p) (as_net items) (IsNet-as_net items is) few (projector_boxes p) fits_items
+  fits_after = contracted_fits items after (λ z. z) contracts is.sizes after_is.sizes (sym comps) colours p
 
   -- ---- stubs, before and behind the move
   abbrev B : List Item
@@ -215,62 +174,15 @@ module _ (p : Parameters) (items : List Item) (is : IsDiagram items)
   half_beyond : (i : ℕ) → half (slot beyondB i) ≡ slot beyond i
   half_beyond i = slid.slot_half _ beyond i
 
-  -- ---- exchanged places
-  abbrev chosen : ℕ → Bool
-  chosen = second_first (crossing_labels D)
-
-  abbrev E : Strands
-  E = turned_strands S (crossing_labels D) once_D
-
-  long_E : (x : ℕ) → length (E.first x) ≡ colour x
-  long_E x = elim (chosen x) as (λ b. length (cond b (S.second x) (S.first x)) ≡ colour x) [ true ↦ even x ∙ long x | false ↦ long x ]
-
-  even_E : AreAsMany E
-  even_E x = elim (chosen x) as (λ b. length (cond b (S.first x) (S.second x)) ≡ length (cond b (S.second x) (S.first x))) [ true ↦ sym (even x) | false ↦ even x ]
-
-  fits_E : AllByRecursion (Fits E) (as_net after)
-  fits_E = fits_from E after after_is.sizes (λ x y w mx my. long_E x ∙ same_after x y mx my (same_component after colours x y (same_least after after_is.sizes x y w mx my)) ∙ sym (long_E y))
-
-  abbrev nodes_E : List Node
-  nodes_E = cable_nodes p E (start (as_net after)) (as_net after)
-
-  ok_E : All IsNode nodes_E
-  ok_E =
-      All-weaker (IsGood p.modulus) IsNode (λ node g. g.is_node) nodes_E
-      (cable_good p E even_E (λ x. (let a = long_E x in let b = few x in omega (arith, a, b))) (projector_boxes p) (as_net after) (start (as_net after)) fits_E)
-
-  exchanged_value : value p.modulus delta (cable p E (as_net after)) ≡ value p.modulus delta (cable p S (as_net after))
-  exchanged_value = exchanged_places p colour boxed (projector_of p) (as_net after) chosen p.modulus delta (IsNet-as_net after after_is) few (projector_boxes p) fits_after
-
   -- ---- the loops stay
   loops_after : loop_labels after ≡ loop_labels items
   loops_after = loop_labels-rewritten (triangle_slots c d f here there beyond k l j) 1 items
 
-  loop_out : (x : ℕ) → is_member ◌==◌ (loop_labels after) x ≡ true → is_member ◌==◌ (crossing_labels after) x ≡ false
-  loop_out x m =
-      let t = times_labels after x in
-      let one = times_of_member x (loop_labels after) m in
-      let two = twice_in_all after (as_paired after after_is) x (omega (arith, t, one)) in
-      ⊎_elim (λ s. absurd (let o = times_of_member x (crossing_labels after) s in omega (arith, t, one, two, o))) (λ s. s) (cases_Bool (is_member ◌==◌ (crossing_labels after) x))
-
-  loop_still : (x : ℕ) → is_member ◌==◌ (loop_labels after) x ≡ true → E.first x ≡ S.first x
-  loop_still x m =
-      let all = crossing_labels D in
-      let out : is_member ◌==◌ (map half all) x ≡ false = ap (λ ns. is_member ◌==◌ ns x) (sym (crossing_labels-halved D) ∙ ap crossing_labels halved_D) ∙ loop_out x m in
-      let none : chosen x ≡ false = ap (λ ws. second_first ws x) (sym (append-nil all)) ∙ first_after all [] x out in
-      ap (λ b. cond b (S.second x) (S.first x)) none
-
-  still : AllByRecursion (λ x. E.first x ≡ S.first x) (loop_labels after)
-  still = each_label (λ x. E.first x ≡ S.first x) (loop_labels after) loop_still
-
-  still_D : AllByRecursion (λ x. E.first x ≡ S.first x) (loop_labels D)
-  still_D = subst (AllByRecursion (λ x. E.first x ≡ S.first x)) (sym (ap loop_labels halved_D) ∙ loop_labels-halved D) still
-
   abbrev free : ℕ
   free = loop_count S (as_net items)
 
-  free_E : loop_count E (as_net after) ≡ free
-  free_E = loop_count_labels E after ∙ counts_same S E (loop_labels after) still ∙ ap (counts S) loops_after ∙ sym (loop_count_labels S items)
+  behind_is : loop_count S (as_net after) ≡ free
+  behind_is = loop_count_labels S after ∙ ap (counts S) loops_after ∙ sym (loop_count_labels S items)
 
   abbrev V : List Node → ℕ
   V ns = value p.modulus delta record { nodes = ns; free_loops = free }
@@ -282,47 +194,11 @@ module _ (p : Parameters) (items : List Item) (is : IsDiagram items)
   abbrev SD : List Node
   SD = stub_nodes p S [] 1 1 0 lg D
 
-  abbrev boxes_E : List Node
-  boxes_E = first_boxes E (start (as_net after)) after
-
-  abbrev stubs_E : List Node
-  stubs_E = stub_nodes p E [] 1 1 0 (count_placed (as_net after) + 1) (stubbed [] after)
-
-  stubs_are : stubs_E ≡ SD
-  stubs_are =
-      ap (λ n. stub_nodes p E [] 1 1 0 (n + 1) (stubbed [] after)) (count_placed-anew (triangle_slots c d f here there beyond k l j) 1 items)
-      ∙ ap (λ xs. stub_nodes p E [] 1 1 0 lg (stubbed [] xs)) (sym halved_D)
-      ∙ exchanged_stubs S (crossing_labels D) once_D p [] [] [] 1 1 0 lg D sizes_D refl (λ y. refl) still_D
-
-  perm_E : IsPermutation nodes_E (boxes_E ++ stubs_E)
-  perm_E = split p E after (start (as_net after)) 1 after_is.sizes
-
-  ok_SD : All IsNode SD
-  ok_SD = subst (All IsNode) stubs_are (All-second IsNode boxes_E stubs_E (All-permutation IsNode nodes_E (boxes_E ++ stubs_E) perm_E ok_E))
-
   abbrev L : List ℕ
   L = first_labels boxed [] items
 
   abbrev L' : List ℕ
   L' = first_labels boxed [] after
-
-  some_modulus : 0 < p.modulus
-  some_modulus = let m = p.meets.modulus.0 in omega (arith, m)
-
-  few_S : (x : ℕ) → length (S.first x) ≤ 8
-  few_S x = let a = long x in let b = few x in omega (arith, a, b)
-
-  box_projector : (x : ℕ) → is_member ◌==◌ L' x ≡ true → IsProjector p.modulus delta (length (S.first x)) (projector_of p (length (S.first x)))
-  box_projector x m =
-      let one = times_of_member x L' m in
-      let t = first_labels_times boxed [] after x in
-      let b : boxed x ≡ true = test (is_member ◌==◌ (crossing_labels after) x) (boxed x) (omega (arith, one, t)) in
-      subst (λ n. IsProjector p.modulus delta n (projector_of p n)) (sym (long x)) (projectors x b)
-    where
-      test : (a b : Bool) → 1 ≤ cond (a && (b && true)) 1 0 → b ≡ true
-      test true true h = refl
-      test true false h = absurd (omega (arith, h))
-      test false b h = absurd (omega (arith, h))
 
   same_labels : IsPermutation L' L
   same_labels =
@@ -387,61 +263,48 @@ module _ (p : Parameters) (items : List Item) (is : IsDiagram items)
       ap₂ (λ u v. one u ++ (two v ++ (three (h f beyondB) ++ (bx ++ O)))) here_is there_is ∙ ap₂ (λ u ns. one new_here ++ (two new_there ++ (three u ++ (bx ++ ns)))) beyond_is same in
       subst P e raw
 
+  placed : count_placed (as_net after) ≡ count_placed (as_net items)
+  placed = count_placed-anew (triangle_slots c d f here there beyond k l j) 1 items
+
+  ok_behind : All IsNode (boxes_of S L' ++ SD)
+  ok_behind =
+      let P : ℕ → Type 0 = λ n. All IsNode (boxes_of S L' ++ stub_nodes p S [] 1 1 0 (n + 1) D) in
+      subst P placed (stub_cable_ok p colour boxed few after after_is fits_after projectors D halved_D sizes_D once_D)
+
   -- THE CABLE BEHIND THE MOVE
-  new_value : value p.modulus delta (cable p E (as_net after)) ≡ V new_front
+  new_value : value p.modulus delta (cable p S (as_net after)) ≡ V new_front
   new_value =
       let turned = boxes_of S L' in
-      let start_E = start (as_net after) in
       let perm = IsPermutation-trans (turned ++ SD) (bx ++ SD) new_front (IsPermutation-append_left SD turned bx (IsPermutation-map _ L' L same_labels)) perm_new in
-      ap (λ n. value p.modulus delta record { nodes = nodes_E; free_loops = n }) free_E
-      ∙ sym (any_order p.modulus delta free nodes_E (boxes_E ++ stubs_E) ok_E perm_E)
-      ∙ ap (λ ns. V (boxes_E ++ ns)) stubs_are
-      ∙ ungrouped_value p.modulus delta free E start_E after SD after_is.sizes
-      ∙ turned_boxes p.modulus delta S (projector_boxes p) even some_modulus few_S chosen free L' SD ok_SD
-      (each_label (λ x. IsProjector p.modulus delta (length (S.first x)) (projector_of p (length (S.first x)))) L' box_projector)
-      ∙ sym (any_order p.modulus delta free (turned ++ SD) new_front (All-append IsNode turned SD (boxes_ok p.modulus delta S (projector_boxes p) even L') ok_SD) perm)
+      stub_cable p colour boxed few after after_is fits_after projectors D halved_D sizes_D once_D
+      ∙ ap₂ (λ n k. value p.modulus delta record { nodes = turned ++ stub_nodes p S [] 1 1 0 (n + 1) D; free_loops = k }) placed behind_is
+      ∙ sym (any_order p.modulus delta free (turned ++ SD) new_front ok_behind perm)
 
   -- ---- the cable before it
-  abbrev nodes_S : List Node
-  nodes_S = cable_nodes p S (start (as_net items)) (as_net items)
+  sizes_B : AllByRecursion HasItsSlots B
+  sizes_B = sizes-stubbed [] items is.sizes
 
-  abbrev boxes_S : List Node
-  boxes_S = first_boxes S (start (as_net items)) items
+  once_B : (w : ℕ) → times_in (crossing_labels B) w ≤ 1
+  once_B = slid.once_B items pd c here found d there also f beyond too apart_dc apart_fc apart_fd k l j k8 l8 j8
 
-  perm_S : IsPermutation nodes_S (boxes_S ++ SB)
-  perm_S = split p S items (start (as_net items)) 1 is.sizes
-
-  ok_S : All IsNode (boxes_S ++ SB)
-  ok_S = All-permutation IsNode nodes_S (boxes_S ++ SB) perm_S small.is_network.nodes
-
-  ok_SB : All IsNode SB
-  ok_SB = All-second IsNode boxes_S SB ok_S
+  ok_before : All IsNode (bx ++ SB)
+  ok_before = stub_cable_ok p colour boxed few items is fits_items projectors B (halved_stubbed [] items) sizes_B once_B
 
   ok_old : All IsNode old_front
-  ok_old = All-permutation IsNode (bx ++ SB) old_front perm_old (All-append IsNode bx SB ok_bx ok_SB)
+  ok_old = All-permutation IsNode (bx ++ SB) old_front perm_old ok_before
 
   ok_new : All IsNode new_front
-  ok_new = All-permutation IsNode (bx ++ SD) new_front perm_new (All-append IsNode bx SD ok_bx ok_SD)
+  ok_new = All-permutation IsNode (bx ++ SD) new_front perm_new (All-append IsNode bx SD ok_bx (All-second IsNode (boxes_of S L') SD ok_behind))
 
   -- THE CABLE BEFORE THE MOVE
-  old_value : V nodes_S ≡ V old_front
-  old_value =
-      sym (any_order p.modulus delta free nodes_S (boxes_S ++ SB) small.is_network.nodes perm_S)
-      ∙ ungrouped_value p.modulus delta free S (start (as_net items)) items SB is.sizes
-      ∙ sym (any_order p.modulus delta free (bx ++ SB) old_front (All-append IsNode bx SB ok_bx ok_SB) perm_old)
-
-  old_names : (z : ℕ) → times_in (names_of old_front) z ≡ times_in (names_of nodes_S) z
-  old_names z =
-      let a = names_permuted z (bx ++ SB) old_front perm_old in
-      let b = names_permuted z nodes_S (boxes_S ++ SB) perm_S in
-      let u = times_of-append z bx SB in
-      let v = times_of-append z boxes_S SB in
-      let same : names_of bx ≡ names_of boxes_S = ap names_of (sym (ungrouped_boxes S (start (as_net items)) items is.sizes)) ∙ names_of-ungrouped boxes_S in
-      let w = ap (λ ns. times_in ns z) same in
-      omega (arith, a, b, u, v, w)
+  old_value : value p.modulus delta (cable p S (as_net items)) ≡ V old_front
+  old_value = stub_cable p colour boxed few items is fits_items projectors B (halved_stubbed [] items) sizes_B once_B ∙ sym (any_order p.modulus delta free (bx ++ SB) old_front ok_before perm_old)
 
   twice : (z : ℕ) → 1 ≤ times_in (names_of old_front) z → times_in (names_of old_front) z ≡ 2
-  twice z one = let e = old_names z in let t = small.is_network.twice z (member_of_one z (names_of nodes_S) (omega (arith, one, e))) in omega (arith, e, t)
+  twice z one =
+      let a = names_permuted z (bx ++ SB) old_front perm_old in
+      let t = stubs_twice p colour boxed few items is fits_items z (omega (arith, one, a)) in
+      omega (arith, a, t)
 
   -- ---- the bundles of the triangle
   long_at : (w : ℕ) → length (at_stub S w) ≡ colour (half w)
@@ -709,6 +572,6 @@ module _ (p : Parameters) (items : List Item) (is : IsDiagram items)
   pub slid_coloured : coloured p after colours ≡ coloured p items colours
   unfolding coloured
   slid_coloured =
-      to_S ∙ sym exchanged_value ∙ new_value ∙ sym triangle_value
+      to_S ∙ new_value ∙ sym triangle_value
       ∙ sym (three_reversed p.modulus delta free (one hereB) (two thereB) (three beyondB) rest ok_one ok_two ok_three ok_rest)
       ∙ sym old_value

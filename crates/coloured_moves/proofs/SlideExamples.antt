@@ -14,7 +14,7 @@ use Rattle.coloured_values.specs.Coloured.{coloured}
 use Rattle.diagram_moves.specs.Moves.{move}
 use Rattle.diagram_moves.specs.Steps.{Answer}
 use Rattle.script_reader.specs.declared.step.Step.TheVariants.{R2Undo, R3, CurlUndo}
-use Rattle.coloured_moves.specs.Anchors.{anchor_inside, first_anchor, inner_edges}
+use Rattle.diagram_moves.specs.Anchors.{anchor_inside, first_anchor, inner_edges}
 use Rattle.coloured_moves.proofs.ColouredSlides.{coloured_slide}
 
 abbrev x : ℕ → ℕ → ℕ → ℕ → Item

@@ -109,7 +109,7 @@ shuffled b c r f s h =
 pub moved_out : (a c r s : List Node) → IsPermutation r (c ++ s) → IsPermutation (a ++ r) (c ++ (a ++ s))
 moved_out a c r s h = shuffled [] a r c s h
 
-same_lists : (xs ys : List Node) → xs ≡ ys → IsPermutation xs ys
+pub same_lists : (xs ys : List Node) → xs ≡ ys → IsPermutation xs ys
 same_lists xs ys e = let P : List Node → Type 0 = λ ns. IsPermutation xs ns in subst P e (IsPermutation-refl xs)
 
 -- A CABLE IS ITS BOXES AND ITS CROSSINGS, IN SOME ORDER

@@ -5,4 +5,6 @@
 
 mod laws;
 
-pub use laws::{coloured_push, coloured_slide, first_anchor_named, no_anchor};
+pub use laws::{
+    coloured_bigon, coloured_curl, coloured_push, coloured_slide, first_anchor_named, no_anchor,
+};

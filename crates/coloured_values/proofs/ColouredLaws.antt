@@ -34,11 +34,11 @@ use Rattle.coloured_values.proofs.AddedComponents.{component_least-added, number
 use Rattle.coloured_values.proofs.CabledDiagrams.{labels-as_net, IsNet-as_net, few_colours, same_least, fits_from}
 
 -- what holds of each label holds of the list
-each_label : (P : ℕ → Type 0) (ls : List ℕ) → ((x : ℕ) → is_member ◌==◌ ls x ≡ true → P x) → AllByRecursion P ls
+pub each_label : (P : ℕ → Type 0) (ls : List ℕ) → ((x : ℕ) → is_member ◌==◌ ls x ≡ true → P x) → AllByRecursion P ls
 each_label P [] h = tt
 each_label P (x ∷ ls) h = (h x (or_left (x == x) (is_member ◌==◌ ls x) (eq-eqb x x refl)), each_label P ls (λ y m. h y (or_right (y == x) (is_member ◌==◌ ls y) m)))
 
-all_labels : (P : ℕ → Type 0) (items : List Item) → ((x : ℕ) → is_member ◌==◌ (labels item_labels items) x ≡ true → P x) → AllByRecursion P (labels net_item_labels (as_net items))
+pub all_labels : (P : ℕ → Type 0) (items : List Item) → ((x : ℕ) → is_member ◌==◌ (labels item_labels items) x ≡ true → P x) → AllByRecursion P (labels net_item_labels (as_net items))
 all_labels P items h = subst (AllByRecursion P) (sym (labels-as_net items)) (each_label P (labels item_labels items) h)
 
 one_entry : (colours : List ℕ) → AllByRecursion (λ colour. colour ≡ 1) colours → (i : ℕ) → i < length colours → slice_index colours i ≡ 1

@@ -7,16 +7,18 @@ use Rattle.pd_reader.specs.declared.item.Item.{Item}
 use Rattle.pd_reader.specs.declared.item.Item.TheVariants.{X, Loop}
 use Rattle.pd_reader.specs.Torus.{torus_items}
 use Rattle.planar_check.specs.declared.sign.Sign.TheVariants as signs
+use Rattle.planar_check.specs.Components.{component_least, least_labels}
 use Rattle.planar_check.specs.Places.{other_place}
 use Rattle.planar_check.specs.Planar.{face_count, wanted_faces, piece_count, edge_count}
 use Rattle.diagram_brackets.specs.Brackets.{loop_count}
 use Rattle.state_sums.specs.StateSums.{value}
 use Rattle.diagram_moves.proofs.Nodes.{nodes_of}
 use Rattle.planar_check.specs.Planar.{face_of}
+use Rattle.diagram_moves.specs.Anchors.{applied_coloured}
 use Rattle.diagram_moves.specs.Moves.{move}
 use Rattle.diagram_moves.specs.Scripts.{played}
 use Rattle.script_reader.specs.declared.step.Step.TheVariants.{R2, R2Undo, R3, Curl, CurlUndo, BlowUp}
-use Rattle.diagram_moves.specs.declared.fault.MoveFault.TheVariants.{NoEdge, NoCrossing, SameEdge, LoopEdge, NotSameFace, NotBigon, NotTriangle, NotCurl, TooMany}
+use Rattle.diagram_moves.specs.declared.fault.MoveFault.TheVariants.{NoEdge, NoCrossing, SameEdge, LoopEdge, NotSameFace, NotBigon, NotTriangle, NotCurl, TooMany, AnchorInside}
 use Rattle.diagram_moves.specs.Steps.{Answer, Moved}
 
 abbrev x : ℕ → ℕ → ℕ → ℕ → Item
@@ -145,3 +147,22 @@ slid_and_uncurled = refl
 
 refused_at_1 : played 1 trefoil (R3 1 2 3 ∷ Curl 1 signs.Plus ∷ []) ≡ Err (1, NotTriangle)
 refused_at_1 = refl
+
+-- ---- boxes inside steps
+inside_curl : applied_coloured (x 1 1 2 2 ∷ []) (2 ∷ []) (CurlUndo 1) ≡ Err (AnchorInside 1)
+unfolding least_labels component_least least_name part part_count other_place face_count wanted_faces piece_count edge_count
+inside_curl = refl
+
+no_box_at_all : applied_coloured (x 1 1 2 2 ∷ []) (1 ∷ []) (CurlUndo 1) ≡ done (negsuc 0) 0 (Loop 1 ∷ [])
+unfolding least_labels component_least least_name part part_count other_place face_count wanted_faces piece_count edge_count
+no_box_at_all = refl
+
+-- the second component's box
+inside_second : applied_coloured (Loop 1 ∷ x 2 2 3 3 ∷ []) (2 ∷ 2 ∷ []) (CurlUndo 1) ≡ Err (AnchorInside 2)
+unfolding least_labels component_least least_name part part_count other_place face_count wanted_faces piece_count edge_count
+inside_second = refl
+
+-- other refusals come before
+refused_anyway : applied_coloured (x 1 1 2 2 ∷ []) (2 ∷ []) (CurlUndo 2) ≡ Err (NoCrossing 2)
+unfolding least_labels component_least least_name part
+refused_anyway = refl

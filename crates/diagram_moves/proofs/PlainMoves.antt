@@ -20,7 +20,7 @@ use Rattle.state_sums.proofs.Congruent.{pow_0, pow_1}
 use Rattle.diagram_moves.specs.Laws.{PlainMovesLaw, IsPairedDiagram}
 use Rattle.diagram_moves.specs.Moves.{plain, second_place, pushed, bigon_classes, is_triangle, triangle_rewritten, triangle_slots, curl_classes, curl_of, curl_slots, curled_loop, closing, removed, finished}
 use Rattle.diagram_moves.specs.Rewriting.{slot, crossing_at, fresh, at_places}
-use Rattle.script_reader.specs.declared.step.Step.TheVariants.{R2, R2Undo, R3, Curl, CurlUndo, BlowUp}
+use Rattle.script_reader.specs.declared.step.Step.TheVariants.{R2, R2Undo, R3, Curl, CurlUndo, BlowUp, Slide}
 use Rattle.diagram_moves.specs.declared.factor.Factor.{Factor}
 use Rattle.diagram_moves.specs.Steps.{Moved}
 use Rattle.diagram_moves.specs.Values.{factor_value}
@@ -241,3 +241,4 @@ plain_moves p items (R3 c d f) moved pd h = holds p items pd moved.items (reache
 plain_moves p items (Curl e sign) moved pd h = holds p items pd moved.items (reached items (Curl e sign) moved refl h).0
 plain_moves p items (CurlUndo c) moved pd h = holds p items pd moved.items (reached items (CurlUndo c) moved refl h).0
 plain_moves p items (BlowUp sign) moved pd h = blow_up_holds p items pd moved h
+plain_moves p items (Slide e f) moved pd h = absurd cc

@@ -121,7 +121,7 @@ module _ (items : List Item) (pd : IsPairedDiagram items) (e f : ℕ) (has_e : i
   split_f : (z : ℕ) → cond (z == f1) 1 0 + cond (z == f3) 1 0 ≡ cond (z == f) 1 0 + cond (z == n + 3) 1 0
   split_f z = elim first_of_f as (λ t. cond (z == cond t f (n + 3)) 1 0 + cond (z == cond t (n + 3) f) 1 0 ≡ cond (z == f) 1 0 + cond (z == n + 3) 1 0) [ true ↦ refl | false ↦ omega arith ]
 
-  cut_times : (z : ℕ) → times_in (crossing_labels R) z + cond (z == e) 1 0 + cond (z == f) 1 0 ≡ times_in (crossing_labels items) z + cond (z == n + 1) 1 0 + cond (z == n + 3) 1 0
+  pub cut_times : (z : ℕ) → times_in (crossing_labels R) z + cond (z == e) 1 0 + cond (z == f) 1 0 ≡ times_in (crossing_labels items) z + cond (z == n + 1) 1 0 + cond (z == n + 3) 1 0
   cut_times z =
       let se = second_place_of items e has_e in
       let sf = second_place_of items f has_f in

@@ -25,7 +25,7 @@ use Rattle.planar_check.specs.Places.{place_labels, crossings_of, first_place, o
 use Rattle.planar_check.specs.Planar.{face_of}
 use Rattle.diagram_moves.specs.Rewriting.{slot, around, crossing_at, rewritten, at_places, crossing_labels, fresh}
 use Rattle.script_reader.specs.declared.step.Step.{Step}
-use Rattle.script_reader.specs.declared.step.Step.TheVariants.{R2, R2Undo, R3, Curl, CurlUndo, BlowUp}
+use Rattle.script_reader.specs.declared.step.Step.TheVariants.{R2, R2Undo, R3, Curl, CurlUndo, BlowUp, Slide}
 use Rattle.diagram_moves.specs.declared.factor.Factor.{Factor}
 use Rattle.diagram_moves.specs.declared.fault.MoveFault.{MoveFault}
 use Rattle.diagram_moves.specs.declared.fault.MoveFault.TheVariants.{NoEdge, NoCrossing, SameEdge, LoopEdge, NotSameFace, NotBigon, NotTriangle, NotCurl, TooMany}
@@ -214,6 +214,7 @@ undo_curl items c =
     finished (curl_of (if s % 2 == 0 then signs.Minus else signs.Plus)) (closing label (slot here s) (slot here s) (removed (c ∷ []) label items))))
 
 -- ---- the moves
+-- A slide is no move: it asks for framings, and slide_laws says what it gives. Here it has no result.
 abbrev pub move : List Item → Step → Answer
 move items (R2 e f) = push items e f
 move items (R2Undo c d) = pull items c d
@@ -221,3 +222,4 @@ move items (R3 c d f) = slide_over items c d f
 move items (Curl e sign) = add_curl items e sign
 move items (CurlUndo c) = undo_curl items c
 move items (BlowUp sign) = finished record { curl = pos 0; circle = 1 } (items ++ item.Loop (fresh items) ∷ [])
+move items (Slide e f) = Err (NoEdge e)

@@ -30,6 +30,8 @@ pub enum MoveFault {
     TooMany { limit: u32 },
     /// The result has this many faces, and a planar one would have `wanted`.
     NotPlanar { faces: u32, wanted: u32 },
+    /// The box of this component, of a coloured diagram, lies inside the move.
+    AnchorInside { component: u32 },
     /// Memory ran out.
     Memory,
 }

@@ -39,7 +39,7 @@ open_pairings nodes ok few open_are narrow =
     (states nodes) (paired_states nodes (open_names nodes) ok few open_are))
 
 -- A state of one more node is a state before it with one term more.
-states_after : (nodes : List Node) (node : Node) → states (nodes ++ node ∷ []) ≡ flat_map (λ state. map (λ term. state ++ term ∷ []) node.terms) (states nodes)
+pub states_after : (nodes : List Node) (node : Node) → states (nodes ++ node ∷ []) ≡ flat_map (λ state. map (λ term. state ++ term ∷ []) node.terms) (states nodes)
 states_after [] node =
     flat_map_single (λ term. term ∷ []) node.terms ∙ sym (append-nil (map (λ term. term ∷ []) node.terms))
 states_after (first ∷ nodes) node =

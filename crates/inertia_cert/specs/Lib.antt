@@ -3,3 +3,4 @@ pub mod Values
 pub mod Grids
 pub mod Eliminations
 pub mod Columns
+pub mod Changes

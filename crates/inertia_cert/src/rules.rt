@@ -1,4 +1,4 @@
-//! The rules for the entries of the elimination's moves: places exchanged, and one place added to another.
+//! The rules for the entries of the elimination's moves: places exchanged, and one place added to another or taken from it.
 
 ghost use Rattle.std.specs.Prelude.{◌≡◌, ◌<◌};
 
@@ -46,95 +46,45 @@ impl Rule for Exchanged<'_> {
     }
 }
 
-/// The column `from` added to the column `to`.
+/// How one row or column changes by another.
+#[derive(Clone, Copy)]
+pub(crate) enum Change {
+    /// The column `from` is added to the column `to`.
+    ColumnAdded,
+    /// The row `from` is added to the row `to`.
+    RowAdded,
+    /// The row `to` is taken from the row `from`.
+    RowTaken,
+}
+
+/// A row or a column changed by another one.
 #[derive(Drop)]
-pub(crate) struct AddedColumn<'a> {
+pub(crate) struct Changed<'a> {
     pub(crate) grid: &'a Grid,
+    pub(crate) change: Change,
     pub(crate) to: usize,
     pub(crate) from: usize,
     ghost to_in_range: { to < grid.now.size },
     ghost from_in_range: { from < grid.now.size },
 }
 
-impl Rule for AddedColumn<'_> {
-    ghost use Rattle.inertia_laws.specs.Elimination.{add_column};
-    ghost use Rattle.inertia_laws.specs.Range.{add_column_fits};
+impl Rule for Changed<'_> {
     ghost use Rattle.inertia_cert.specs.Grids.{at};
+    ghost use Rattle.inertia_cert.specs.Changes.{changed, change_fits};
 
     ghost size = { λ rule. rule.grid.now.size };
 
-    ghost gives = { λ rule. add_column rule.to rule.from (at rule.grid.now) };
+    ghost gives = { λ rule. changed rule.change rule.to rule.from (at rule.grid.now) };
 
-    ghost fits = { λ rule. add_column_fits rule.to rule.from (at rule.grid.now) };
-
-    fn entry(&self, row: usize, column: usize) -> Option<Fraction> {
-        let here = self.grid.at(row, column);
-        if column == self.to {
-            plus(here, self.grid.at(row, self.from))
-        } else {
-            Some(here)
-        }
-    }
-}
-
-/// The row `from` added to the row `to`.
-#[derive(Drop)]
-pub(crate) struct AddedRow<'a> {
-    pub(crate) grid: &'a Grid,
-    pub(crate) to: usize,
-    pub(crate) from: usize,
-    ghost to_in_range: { to < grid.now.size },
-    ghost from_in_range: { from < grid.now.size },
-}
-
-impl Rule for AddedRow<'_> {
-    ghost use Rattle.inertia_laws.specs.Elimination.{add_row};
-    ghost use Rattle.inertia_laws.specs.Range.{add_row_fits};
-    ghost use Rattle.inertia_cert.specs.Grids.{at};
-
-    ghost size = { λ rule. rule.grid.now.size };
-
-    ghost gives = { λ rule. add_row rule.to rule.from (at rule.grid.now) };
-
-    ghost fits = { λ rule. add_row_fits rule.to rule.from (at rule.grid.now) };
+    ghost fits = { λ rule. change_fits rule.change rule.to rule.from (at rule.grid.now) };
 
     fn entry(&self, row: usize, column: usize) -> Option<Fraction> {
         let here = self.grid.at(row, column);
-        if row == self.to {
-            plus(here, self.grid.at(self.from, column))
-        } else {
-            Some(here)
-        }
-    }
-}
-
-/// The row `taken` taken from the row `from`.
-#[derive(Drop)]
-pub(crate) struct TakenRow<'a> {
-    pub(crate) grid: &'a Grid,
-    pub(crate) taken: usize,
-    pub(crate) from: usize,
-    ghost taken_in_range: { taken < grid.now.size },
-    ghost from_in_range: { from < grid.now.size },
-}
-
-impl Rule for TakenRow<'_> {
-    ghost use Rattle.inertia_laws.specs.Elimination.{take_row};
-    ghost use Rattle.inertia_laws.specs.Range.{take_row_fits};
-    ghost use Rattle.inertia_cert.specs.Grids.{at};
-
-    ghost size = { λ rule. rule.grid.now.size };
-
-    ghost gives = { λ rule. take_row rule.taken rule.from (at rule.grid.now) };
-
-    ghost fits = { λ rule. take_row_fits rule.taken rule.from (at rule.grid.now) };
-
-    fn entry(&self, row: usize, column: usize) -> Option<Fraction> {
-        let here = self.grid.at(row, column);
-        if row == self.from {
-            minus(here, self.grid.at(self.taken, column))
-        } else {
-            Some(here)
+        match self.change {
+            Change::ColumnAdded if column == self.to => { plus(here, self.grid.at(row, self.from)) }
+            Change::RowAdded if row == self.to => plus(here, self.grid.at(self.from, column)),
+            Change::RowTaken if row == self.from => minus(here, self.grid.at(self.to, column)),
+            _ => Some(here),
         }
     }
 }

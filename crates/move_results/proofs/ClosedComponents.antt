@@ -338,7 +338,7 @@ module _ (items : List Item) (pd : IsPairedDiagram items) (gone : List ℕ) (pai
   }
 
 -- ---- the two moves that close
-ends_by : (f : ℕ → ℕ) (a b : ℕ) (ps : List (ℕ × ℕ)) → AllByRecursion (λ p. ((f p.0 ≡ a) ⊎ (f p.0 ≡ b)) × (f p.0 ≡ f p.1)) ps → (l : ℕ) → is_member ◌==◌ (ends_of ps) l ≡ true → (f l ≡ a) ⊎ (f l ≡ b)
+pub ends_by : (f : ℕ → ℕ) (a b : ℕ) (ps : List (ℕ × ℕ)) → AllByRecursion (λ p. ((f p.0 ≡ a) ⊎ (f p.0 ≡ b)) × (f p.0 ≡ f p.1)) ps → (l : ℕ) → is_member ◌==◌ (ends_of ps) l ≡ true → (f l ≡ a) ⊎ (f l ≡ b)
 ends_by f a b [] h l m = absurd (grind (arith, m))
 ends_by f a b (p ∷ ps) h l m =
     ⊎_elim

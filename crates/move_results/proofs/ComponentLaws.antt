@@ -19,7 +19,7 @@ use Rattle.move_results.specs.Laws.{ComponentsKeptLaw}
 use Rattle.diagram_moves.specs.Moves.{curl_slots, curled_loop}
 use Rattle.diagram_moves.specs.Rewriting.{crossing_labels, fresh}
 use Rattle.diagram_moves.specs.declared.factor.Factor.{Factor}
-use Rattle.script_reader.specs.declared.step.Step.TheVariants.{R2, R2Undo, R3, Curl, CurlUndo, BlowUp}
+use Rattle.script_reader.specs.declared.step.Step.TheVariants.{R2, R2Undo, R3, Curl, CurlUndo, BlowUp, Slide}
 use Rattle.move_results.proofs.ClosedComponents.{pulled_components, uncurled_components}
 use Rattle.move_results.proofs.CurledComponents.{curled_components}
 use Rattle.diagram_moves.proofs.Curling.{loop_label, loop_label_e, loop_label_k, low_e, is_loop_label, loop_slots_four, sizes-curled_loop}
@@ -130,7 +130,7 @@ module _ (items : List Item) (pd : IsPairedDiagram items) (e : ℕ) (has : is_me
       sym (ap (λ f. to f.0) q) ∙ loop_label_k items pd e has out sign ∙ sym (loop_label_e items pd e has out sign) ∙ ap (λ f. to f.1) q
   collapse signs.Minus fs x y (suc (suc i), l, q) = absurd (omega (arith, l))
 
-  loop_contracts : Contracts after items to
+  pub loop_contracts : Contracts after items to
   loop_contracts = record {
     fixes = λ l m. old_label l (fresh_above items l m);
     lowers = λ l.
@@ -267,3 +267,4 @@ components_kept items (R3 c g f) moved pd h = kept_components items moved.items 
 components_kept items (Curl e sign) moved pd h = kept_components items moved.items pd (reached items (Curl e sign) moved refl h).0 ∙ sym (append-nil (least_labels items))
 components_kept items (CurlUndo c) moved pd h = kept_components items moved.items pd (reached items (CurlUndo c) moved refl h).0 ∙ sym (append-nil (least_labels items))
 components_kept items (BlowUp sign) moved pd h = ap least_labels (blown_up items sign moved h) ∙ blown_components items pd
+components_kept items (Slide e f) moved pd h = absurd cc

@@ -15,7 +15,8 @@ use Rattle.planar_check.specs.declared.sign.Sign.TheVariants as signs
 use Rattle.diagram_moves.specs.Laws.{IsPairedDiagram}
 use Rattle.diagram_moves.specs.Moves.{curl_slots}
 use Rattle.diagram_moves.specs.Rewriting.{crossing_labels, fresh}
-use Rattle.move_results.proofs.CutComponents.{cut_components, each_walk}
+use Rattle.move_results.proofs.CutComponents.{cut_contracts, cut_components, each_walk}
+use Rattle.move_results.proofs.LeastLabelLists.{Contracts}
 use Rattle.diagram_moves.proofs.Curling.{label, pairs, R, cut, slots, low, label_old, label_n, label_n1, joined_label, each_back, sizes-curled, curled_times, new_two, first_open, second_open}
 use Rattle.diagram_moves.proofs.Paired.{times_labels, loop_labels}
 use Rattle.move_results.proofs.PairedAgain.{loop_labels-append}
@@ -73,6 +74,11 @@ module _ (items : List Item) (pd : IsPairedDiagram items) (e : ℕ) (has : is_me
       (λ s0. ⊎_elim (λ s. ap there (ap to s ∙ label_n1 items pd e has sign) ∙ at_e)
       (λ s1. absurd (grind (arith, nat_tests, s0, s1, one)))
       (cases_eq z (n + 1))) (cases_eq z n)
+
+  pub curled_contracts : Contracts after items to
+  curled_contracts =
+      cut_contracts items pd (cut items pd e has sign) new walked to (new_two items pd e has sign) (each_back items pd e has sign) (joined_label items pd e has sign)
+      (each_walk walked (strand_edges new) (in_new sign)) (edge_of (strand_edges new) to (collapse sign)) (label_old items pd e has sign) lowers total onto
 
   pub curled_components : least_labels after ≡ least_labels items
   curled_components =

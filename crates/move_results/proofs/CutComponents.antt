@@ -86,7 +86,7 @@ module _ (items : List Item) (pd : IsPairedDiagram items) (g : ℕ → ℕ → �
       let t = total z in
       ⊎_elim (λ h. inl h) (λ h. inr (let none = times_none (labels item_labels items) z h in omega (arith, one, t, none))) (cases_Bool (is_member ◌==◌ (labels item_labels items) z))
 
-  cut_contracts : Contracts after items label
+  pub cut_contracts : Contracts after items label
   cut_contracts = record {
     fixes = λ l m. label_old l (fresh_above items l m);
     lowers = lowers;

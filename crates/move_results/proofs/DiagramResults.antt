@@ -14,7 +14,7 @@ use Rattle.diagram_moves.specs.Moves.{move}
 use Rattle.diagram_moves.specs.Rewriting.{fresh}
 use Rattle.script_reader.specs.declared.step.Step.{Step}
 use Rattle.diagram_moves.specs.declared.factor.Factor.{Factor}
-use Rattle.script_reader.specs.declared.step.Step.TheVariants.{R2, R2Undo, R3, Curl, CurlUndo, BlowUp}
+use Rattle.script_reader.specs.declared.step.Step.TheVariants.{R2, R2Undo, R3, Curl, CurlUndo, BlowUp, Slide}
 use Rattle.diagram_moves.specs.Steps.{Moved}
 use Rattle.move_results.proofs.ClosedComponents.{pulled_contracts, uncurled_contracts}
 use Rattle.move_results.proofs.ComponentLaws as loops
@@ -79,8 +79,8 @@ label_of (l ∷ ls) h x m = ⊎_elim (λ e. subst IsLabel (sym (eqb-true x l e))
 in_range : (items : List Item) → IsDiagram items → fresh items + 3 ≤ 2000000 → (z : ℕ) → OldOrNew items z → IsLabel z
 in_range items is room z old = ⊎_elim (λ m. label_of (labels item_labels items) is.in_range z m) (λ h. record { low = (let b = h.0 in omega (arith, b)); high = (let t = h.1 in omega (arith, t, room)) }) old
 
-kept : (items : List Item) → IsDiagram items → IsPairedDiagram items
-kept items is = record { sizes = is.sizes; twice = is.twice }
+pub as_paired : (items : List Item) → IsDiagram items → IsPairedDiagram items
+as_paired items is = record { sizes = is.sizes; twice = is.twice }
 
 -- each label of a result is one of the diagram's, or one of four new ones
 pub label_of_result : (items : List Item) (step : Step) (moved : Moved) → IsPairedDiagram items → move items step ≡ Ok moved → (z : ℕ) → is_member ◌==◌ (labels item_labels moved.items) z ≡ true → OldOrNew items z
@@ -93,6 +93,7 @@ label_of_result items (BlowUp sign) moved pd h = λ z m.
     let n = fresh items in
     let there = ap (λ its. is_member ◌==◌ (labels item_labels its) z) (blown_up items sign moved h) in
     from_total items (items ++ item.Loop n ∷ []) z (cond (z == n) 1 0) (loops.blown_labels items n z) (of_one n z) (sym there ∙ m)
+label_of_result items (Slide e f) moved pd h = absurd cc
 
 few_items : (items : List Item) (step : Step) (moved : Moved) → move items step ≡ Ok moved → length moved.items ≤ 256
 few_items items (R2 e f) moved h = (reached items (R2 e f) moved refl h).1
@@ -101,6 +102,7 @@ few_items items (R3 c g f) moved h = (reached items (R3 c g f) moved refl h).1
 few_items items (Curl e sign) moved h = (reached items (Curl e sign) moved refl h).1
 few_items items (CurlUndo c) moved h = (reached items (CurlUndo c) moved refl h).1
 few_items items (BlowUp sign) moved h = blown_few items sign moved h
+few_items items (Slide e f) moved h = absurd cc
 
 greatest_at_most : (ls : List ℕ) (n : ℕ) → ((z : ℕ) → is_member ◌==◌ ls z ≡ true → z ≤ n) → greatest ls ≤ n
 greatest_at_most [] n h = omega arith
@@ -118,10 +120,10 @@ greatest_grows items step moved pd h =
 -- A DIAGRAM AGAIN
 pub diagram_again : DiagramAgainLaw
 diagram_again items step moved is room h =
-    let paired = paired_again items step moved (kept items is) h in
+    let paired = paired_again items step moved (as_paired items is) h in
     record {
       few = few_items items step moved h;
       sizes = paired.sizes;
-      in_range = each_label (labels item_labels moved.items) (λ x m. in_range items is room x (label_of_result items step moved (kept items is) h x m));
+      in_range = each_label (labels item_labels moved.items) (λ x m. in_range items is room x (label_of_result items step moved (as_paired items is) h x m));
       twice = paired.twice;
     }

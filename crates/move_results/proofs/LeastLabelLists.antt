@@ -36,7 +36,7 @@ abbrev pub IsLeast : List Item → ℕ → Type 0
 IsLeast items l = (is_member ◌==◌ (labels item_labels items) l ≡ true) × ((y : ℕ) → Joined (strand_edges items) l y → l ≤ y)
 
 module _ (items : List Item) (sizes : AllByRecursion HasItsSlots items) where
-  least_is : (l : ℕ) → is_member ◌==◌ (labels item_labels items) l ≡ true → component_least items l ≡ least_label (strand_edges items) l
+  pub least_is : (l : ℕ) → is_member ◌==◌ (labels item_labels items) l ≡ true → component_least items l ≡ least_label (strand_edges items) l
   unfolding component_least
   least_is l m = least_name-label (labels item_labels items) (strand_edges items) (strands_among items sizes) l m
 

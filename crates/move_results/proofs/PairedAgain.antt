@@ -160,7 +160,7 @@ pub loop_labels-loops : (ls : List ℕ) → loop_labels (map item.Loop ls) ≡ l
 loop_labels-loops [] = refl
 loop_labels-loops (l ∷ ls) = ap (λ ns. l ∷ ns) (loop_labels-loops ls)
 
-crossing_labels-loops : (ls : List ℕ) → crossing_labels (map item.Loop ls) ≡ []
+pub crossing_labels-loops : (ls : List ℕ) → crossing_labels (map item.Loop ls) ≡ []
 crossing_labels-loops [] = refl
 crossing_labels-loops (l ∷ ls) = crossing_labels-loops ls
 

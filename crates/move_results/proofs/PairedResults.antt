@@ -19,7 +19,7 @@ use Rattle.diagram_moves.proofs.Pulling.{recounted, curl_recounted, wrapped}
 use Rattle.diagram_moves.proofs.Pushing.{sizes-pushed, pushed_times, new_four, new_four_old, new_four_most, crossing_labels-append}
 use Rattle.diagram_moves.proofs.Results.{Reached, by_push, by_pull, by_slide, by_curl, by_curl_on_loop, by_uncurl, reached, blown_up}
 use Rattle.diagram_moves.specs.declared.factor.Factor.{Factor}
-use Rattle.script_reader.specs.declared.step.Step.TheVariants.{R2, R2Undo, R3, Curl, CurlUndo, BlowUp}
+use Rattle.script_reader.specs.declared.step.Step.TheVariants.{R2, R2Undo, R3, Curl, CurlUndo, BlowUp, Slide}
 use Rattle.diagram_moves.proofs.Rewritten.{anew, loop_labels-rewritten}
 use Rattle.diagram_moves.proofs.Triangles.{sizes-triangle, after_times}
 use Rattle.list_lemmas.specs.Times.{times_in}
@@ -167,3 +167,4 @@ paired_again items (R3 c g f) moved pd h = again items moved.items pd (reached i
 paired_again items (Curl e sign) moved pd h = again items moved.items pd (reached items (Curl e sign) moved refl h).0
 paired_again items (CurlUndo c) moved pd h = again items moved.items pd (reached items (CurlUndo c) moved refl h).0
 paired_again items (BlowUp sign) moved pd h = subst IsPairedDiagram (sym (blown_up items sign moved h)) (blown_again items pd)
+paired_again items (Slide e f) moved pd h = absurd cc

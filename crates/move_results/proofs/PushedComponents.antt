@@ -13,7 +13,8 @@ use Rattle.planar_check.specs.Components.{strand_edges, least_labels}
 use Rattle.diagram_moves.specs.Laws.{IsPairedDiagram}
 use Rattle.diagram_moves.specs.Moves.{pushed}
 use Rattle.diagram_moves.specs.Rewriting.{crossing_labels, fresh}
-use Rattle.move_results.proofs.CutComponents.{cut_components, each_walk}
+use Rattle.move_results.proofs.CutComponents.{cut_contracts, cut_components, each_walk}
+use Rattle.move_results.proofs.LeastLabelLists.{Contracts}
 use Rattle.diagram_moves.proofs.Paired.{times_labels, loop_labels}
 use Rattle.move_results.proofs.PairedAgain.{loop_labels-append}
 use Rattle.move_results.proofs.PairedResults.{loop_labels-at_places}
@@ -72,6 +73,11 @@ module _ (items : List Item) (pd : IsPairedDiagram items) (e f : ℕ) (has_e : i
       (λ s2. ⊎_elim (λ s. ap has (ap to s ∙ label_n3 items pd e f has_e has_f apart b c) ∙ at_f)
       (λ s3. absurd (grind (arith, nat_tests, s0, s1, s2, s3, one)))
       (cases_eq z (n + 3))) (cases_eq z (n + 2))) (cases_eq z (n + 1))) (cases_eq z n)
+
+  pub pushed_contracts : Contracts (pushed items e f b c) items to
+  pushed_contracts =
+      cut_contracts items pd (cut items pd e f has_e has_f apart b c) new walked to (new_four n) (each_back items pd e f has_e has_f apart b c) (joined_label items pd e f has_e has_f apart b c)
+      (each_walk walked (strand_edges new) in_new) (edge_of (strand_edges new) to collapse) (label_old items pd e f has_e has_f apart b c) lowers total onto
 
   pub pushed_components : least_labels (pushed items e f b c) ≡ least_labels items
   pushed_components =

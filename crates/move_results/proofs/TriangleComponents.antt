@@ -154,7 +154,7 @@ module _ (m delta a b : ℕ) (numbers : AreSkeinNumbers m a b delta) (items : Li
       let s = ap (λ ns. times_in ns z) (loop_labels-rewritten slots_of 1 items) in
       omega (arith, x, y, t, s)
 
-  triangle_contracts : Contracts items after (λ z. z)
+  pub triangle_contracts : Contracts items after (λ z. z)
   triangle_contracts = record {
     fixes = λ z m. refl;
     lowers = λ z. omega arith;

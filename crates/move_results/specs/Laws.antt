@@ -15,7 +15,7 @@ use Rattle.diagram_brackets.specs.Brackets.{bracket}
 use Rattle.diagram_moves.specs.Moves.{move, is_bigon, is_triangle}
 use Rattle.diagram_moves.specs.Rewriting.{slot, crossing_at, fresh}
 use Rattle.script_reader.specs.declared.step.Step.{Step}
-use Rattle.script_reader.specs.declared.step.Step.TheVariants.{R2, R2Undo, R3, Curl, CurlUndo, BlowUp}
+use Rattle.script_reader.specs.declared.step.Step.TheVariants.{R2, R2Undo, R3, Curl, CurlUndo, BlowUp, Slide}
 use Rattle.diagram_moves.specs.Steps.{Moved}
 use Rattle.diagram_moves.specs.Values.{factor_value}
 use Rattle.planar_check.specs.Planar.{next_in_face}
@@ -34,6 +34,7 @@ added (R2Undo c d) items = []
 added (R3 c d f) items = []
 added (Curl e sign) items = []
 added (CurlUndo c) items = []
+added (Slide e f) items = []
 
 -- The components of the result have the least labels of those before, in the same order, and `BlowUp` adds one at the end.
 abbrev pub ComponentsKeptLaw : Type 0

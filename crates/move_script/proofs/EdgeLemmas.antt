@@ -1,5 +1,5 @@
 -- Edges by their places, and the greatest label.
-use Rattle.std.proofs.Common.{◌≡◌, ℕ, ◌+◌, ◌<◌, ◌≤◌, true, false, not, cond, ◌==◌, List, [], ◌∷◌, length, Option, Some, None, refl, sym, ap, subst, ◌∙◌, arith, ⊎_elim}
+use Rattle.std.proofs.Common.{◌≡◌, ℕ, ◌≤◌, true, false, not, cond, ◌==◌, List, [], ◌∷◌, length, Some, None, sym, ap, subst, ◌∙◌, arith, ⊎_elim}
 use Rattle.std.specs.List.{AllByRecursion}
 use Rattle.std.specs.Set.{is_member}
 use Rattle.std.proofs.lemmas.Bool.{cases_Bool, eqb-true, lt-ltb}
@@ -9,8 +9,7 @@ use Rattle.pd_reader.specs.declared.item.Item.{Item}
 use Rattle.pd_reader.specs.Diagrams.{IsLabel}
 use Rattle.planar_check.specs.Components.{greatest, rank}
 use Rattle.planar_check.specs.Places.{first_place, place_labels}
-use Rattle.diagram_moves.specs.Moves.{first_place_of, is_loop}
-use Rattle.diagram_moves.specs.Rewriting.{crossing_labels}
+use Rattle.diagram_moves.specs.Moves.{is_loop}
 use Rattle.diagram_moves.proofs.PlaceLemmas.{index_has, place_labels_are}
 
 -- a label with a first place stands at one, and one without stands at none

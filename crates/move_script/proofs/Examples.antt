@@ -1,7 +1,7 @@
 -- The tables of the code, computed at worked values.
-use Rattle.std.proofs.Common.{◌≡◌, List, [], ◌∷◌, Ok, pos, refl}
-use Rattle.pd_reader.specs.declared.item.Item.TheVariants.{X, Loop}
-use Rattle.planar_check.specs.declared.sign.Sign.TheVariants.{Plus, Minus}
+use Rattle.std.proofs.Common.{◌≡◌, [], ◌∷◌, pos, refl}
+use Rattle.pd_reader.specs.declared.item.Item.TheVariants.{Loop}
+use Rattle.planar_check.specs.declared.sign.Sign.TheVariants.{Plus}
 use Rattle.script_reader.specs.declared.step.Step.TheVariants.{BlowUp, R2}
 use Rattle.move_script.specs.FramedMoves.{framings_after}
 use Rattle.move_script.specs.Tables.{anew, cut_by, joined}

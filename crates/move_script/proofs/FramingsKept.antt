@@ -1,5 +1,5 @@
 -- Framings after a step: one for each component, none of them large.
-use Rattle.std.proofs.Common.{◌≡◌, ℕ, suc, ◌<◌, false, true, ℤ, pos, negsuc, List, [], ◌∷◌, ◌++◌, length, get_or, Option, Some, None, option_map, length-append, refl, sym, ap, ◌∙◌, arith, All, subst}
+use Rattle.std.proofs.Common.{◌≡◌, ℕ, suc, false, true, ℤ, pos, List, [], ◌++◌, length, Option, Some, None, option_map, length-append, refl, sym, ap, ◌∙◌, arith, All, subst}
 use Rattle.std.specs.List.{position}
 use Rattle.std.proofs.lemmas.List.Elements.{All-append, All-cons, All-get_or, All-nil}
 use Rattle.std.proofs.lemmas.List.Quantifiers.{position-Some}
@@ -10,7 +10,7 @@ use Rattle.planar_check.specs.Components.{least_labels}
 use Rattle.planar_check.specs.Framings.{FramedDiagram, IsFramed, is_large}
 use Rattle.planar_check.specs.Tables.{sign_value}
 use Rattle.script_reader.specs.declared.step.Step.{Step}
-use Rattle.script_reader.specs.declared.step.Step.TheVariants.{R2, R2Undo, R3, Curl, CurlUndo, BlowUp}
+use Rattle.script_reader.specs.declared.step.Step.TheVariants.{R2, R2Undo, R3, Curl, CurlUndo, BlowUp, Slide}
 use Rattle.move_results.specs.Laws.{added}
 use Rattle.move_script.specs.FramedMoves.{added_framings, framings_after}
 
@@ -34,6 +34,7 @@ as_many items (R3 first second third) = refl
 as_many items (Curl edge sign) = refl
 as_many items (CurlUndo crossing) = refl
 as_many items (BlowUp sign) = refl
+as_many items (Slide edge along) = refl
 
 small_sign : (sign : Sign) → Small (sign_value sign)
 small_sign signs.Plus = refl
@@ -46,6 +47,7 @@ small_added (R3 first second third) = All-nil Small
 small_added (Curl edge sign) = All-nil Small
 small_added (CurlUndo crossing) = All-nil Small
 small_added (BlowUp sign) = All-cons Small (sign_value sign) [] (small_sign sign) (All-nil Small)
+small_added (Slide edge along) = All-nil Small
 
 pub framed_after : (framed : FramedDiagram) (step : Step) (items : List Item) (framings : List ℤ) → IsFramed framed → least_labels items ≡ least_labels framed.items ++ added step framed.items → framings ≡ framings_after framed step →
     IsFramed record { items = items; framings = framings }

@@ -3,4 +3,5 @@ pub mod EdgeLemmas
 pub mod MadeMoves
 pub mod FramingsKept
 pub mod BlownUp
+pub mod ColouredKept
 mod Examples

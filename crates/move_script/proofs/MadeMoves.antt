@@ -1,5 +1,5 @@
 -- Each move, where none of its refusals comes: what the code makes is what the definition says.
-use Rattle.std.proofs.Common.{◌≡◌, ℕ, ◌+◌, ◌%◌, Bool, true, false, cond, not, ◌||◌, ◌==◌, List, [], ◌∷◌, ◌++◌, map, unwrap_or, Option, Some, None, refl, sym, ap, ◌∙◌, arith}
+use Rattle.std.proofs.Common.{◌≡◌, ℕ, ◌+◌, ◌%◌, Bool, true, false, cond, not, ◌||◌, ◌==◌, List, [], ◌∷◌, ◌++◌, map, unwrap_or, Option, Some, None, sym, ap, ◌∙◌}
 use Rattle.std.specs.List.{filter, find}
 use Rattle.std.specs.Set.{is_member}
 use Rattle.graph_parts.specs.LeastNames.{least_label}

@@ -85,7 +85,7 @@ pub(crate) fn add_curl(
 }
 
 /// The least slot of a crossing whose label stands at the next slot too.
-fn curl_at(slots: &[u32; 4]) -> Option<usize>
+pub(crate) fn curl_at(slots: &[u32; 4]) -> Option<usize>
     ensures found { result ≡ find (is_curl slots.now) four }
     ensures low { IfSome result (λ s. s < 4) }
 {

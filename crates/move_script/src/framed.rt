@@ -1,6 +1,6 @@
 //! Steps made with framed diagrams.
 
-ghost use Rattle.std.specs.Prelude.{◌≡◌, ◌⊎◌, ◌+◌, ◌<◌, ◌≤◌, ◌++◌, Ok, Err, None, length, IfOk, IfErr};
+ghost use Rattle.std.specs.Prelude.{◌≡◌, ◌⊎◌, ◌+◌, ◌<◌, ◌≤◌, ◌++◌, false, Ok, Err, None, length, IfOk, IfErr};
 ghost use Rattle.root_quantum.specs.Parameters.{Parameters};
 ghost use Rattle.pd_reader.specs.Items.{item_labels};
 ghost use Rattle.pd_reader.specs.Diagrams.{labels};
@@ -11,6 +11,7 @@ ghost use Rattle.coloured_values.specs.Laws.{blown_up};
 ghost use Rattle.coloured_values.specs.Surgery.{HasSurgeryValue, surgery};
 ghost use Rattle.diagram_moves.specs.Rewriting.{fresh};
 ghost use Rattle.move_results.specs.Laws.{added};
+ghost use Rattle.script_reader.specs.Steps.{is_slide};
 ghost use Rattle.move_script.specs.FramedMoves.{applied_framed, framings_after};
 
 use crate::moved::{GREATEST_LABEL, apply};
@@ -65,11 +66,12 @@ fn framed_with(alloc: Global, planar: Planar, framings: &[i64]) -> Result<Framed
 }
 
 /// Makes a step with a framed diagram: `blow_up` for `BlowUp`, and else `apply`, where each component keeps its
-/// number and its framing.
+/// number and its framing. The step is no slide, which `slide` of slide_band makes.
 ///
 /// The refusals are those of `apply`.
 pub fn apply_framed(alloc: Global, framed: &Framed, step: &Step) -> Result<Framed, MoveFault>
-    requires { greatest (labels item_labels framed.now.items) ≤ GREATEST_LABEL }
+    requires room { greatest (labels item_labels framed.now.items) ≤ GREATEST_LABEL }
+    requires step { is_slide step.now ≡ false }
     // The result is that of the definition: the move's, with the framings of the components.
     ensures made { IfOk result (λ moved. applied_framed framed.now step.now ≡ Ok moved) }
     // A refusal is the first one, but where memory runs out.

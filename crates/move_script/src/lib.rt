@@ -1,8 +1,9 @@
-//! Moves on diagrams: `apply` makes a step, `apply_framed` and `blow_up` make it with framings.
+//! Moves on diagrams: `apply` makes a step, `apply_framed` and `blow_up` make it with framings, and `apply_coloured` with colours.
 #![tactic(auto)]
 
 mod changed;
 mod classes;
+mod coloured;
 mod crossings;
 mod curl;
 mod edges;
@@ -12,6 +13,7 @@ mod pull;
 mod push;
 mod slide;
 
+pub use coloured::apply_coloured;
 pub use framed::{apply_framed, blow_up};
 pub use moved::{GREATEST_LABEL, Moved, apply};
 

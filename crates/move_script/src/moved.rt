@@ -1,6 +1,6 @@
 //! A step made with a diagram.
 
-ghost use Rattle.std.specs.Prelude.{◌≡◌, ◌⊎◌, ◌+◌, ◌*◌, ◌%◌, ◌≤◌, ◌++◌, Ok, Err, IfOk, IfErr};
+ghost use Rattle.std.specs.Prelude.{◌≡◌, ◌⊎◌, ◌+◌, ◌*◌, ◌%◌, ◌≤◌, ◌++◌, false, Ok, Err, IfOk, IfErr};
 ghost use Rattle.root_quantum.specs.Parameters.{Parameters};
 ghost use Rattle.pd_reader.specs.Items.{item_labels};
 ghost use Rattle.pd_reader.specs.Diagrams.{IsDiagram, labels};
@@ -11,6 +11,7 @@ ghost use Rattle.diagram_moves.specs.Moves.{move};
 ghost use Rattle.diagram_moves.specs.Scripts.{applied};
 ghost use Rattle.diagram_moves.specs.Values.{factor_value};
 ghost use Rattle.move_results.specs.Laws.{added};
+ghost use Rattle.script_reader.specs.Steps.{is_slide};
 ghost use Rattle.move_script.specs.Tables.{IsMade};
 
 use crate::changed::{Changed, finished};
@@ -63,6 +64,7 @@ fn with_loop(alloc: Global, items: &[Item]) -> Result<Changed, MoveFault>
 
 /// The items that a step gives, with its factor.
 fn change(alloc: Global, diagram: &Planar, step: &Step) -> Result<Changed, MoveFault>
+    requires { is_slide step.now ≡ false }
     ensures made { IsMade (move diagram.now step.now) result }
     ensures diagram { IsDiagram diagram.now }
 {
@@ -78,6 +80,7 @@ fn change(alloc: Global, diagram: &Planar, step: &Step) -> Result<Changed, MoveF
         Step::Curl { edge, sign } => add_curl(alloc, diagram, edge, sign),
         Step::CurlUndo { crossing } => undo_curl(alloc, items, crossing),
         Step::BlowUp { sign: _ } => with_loop(alloc, items),
+        Step::Slide { edge: _, along: _ } => unreachable!(),
     }
 }
 
@@ -94,7 +97,7 @@ fn diagram_of(alloc: Global, items: &[Item]) -> Result<Diagram, AllocError>
     }
 }
 
-/// Makes a step with a planar diagram: the result with its factor.
+/// Makes a step with a planar diagram: the result with its factor. The step is no slide, which asks for framings.
 ///
 /// What each step gives and why it is refused, `diagram_moves` defines. The refusals of each step in their order are:
 /// - `R2`: `NoEdge` for either edge, `SameEdge`, `LoopEdge` for either, `NotSameFace`;
@@ -104,7 +107,8 @@ fn diagram_of(alloc: Global, items: &[Item]) -> Result<Diagram, AllocError>
 ///
 /// `Memory` is want of memory.
 pub fn apply(alloc: Global, diagram: &Planar, step: &Step) -> Result<Moved, MoveFault>
-    requires { greatest (labels item_labels diagram.now) ≤ GREATEST_LABEL }
+    requires room { greatest (labels item_labels diagram.now) ≤ GREATEST_LABEL }
+    requires step { is_slide step.now ≡ false }
     // The result and its factor are those of the definition.
     ensures made { IfOk result (λ moved. applied diagram.now step.now ≡ Ok moved) }
     // A refusal is the first one, but where memory runs out.

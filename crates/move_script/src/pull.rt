@@ -25,7 +25,7 @@ fn is_bigon(here: &[u32; 4], there: &[u32; 4], at: (usize, usize)) -> bool
 }
 
 /// The slots at which such a face begins, with the least slot of the first crossing.
-fn bigon(here: &[u32; 4], there: &[u32; 4]) -> Option<(usize, usize)>
+pub(crate) fn bigon(here: &[u32; 4], there: &[u32; 4]) -> Option<(usize, usize)>
     ensures found { result ≡ find (is_bigon here.now there.now) slot_pairs }
     ensures low { IfSome result (λ at. (at.0 < 4) × (at.1 < 4)) }
 {

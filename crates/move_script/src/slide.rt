@@ -21,7 +21,7 @@ struct Corner {
 
 /// Whether a face of three places goes from slot s of the first crossing to slot t of the second and slot u of the
 /// third, with one of its edges over at both of its places.
-fn is_triangle(
+pub(crate) fn is_triangle(
     first: &[u32; 4],
     second: &[u32; 4],
     third: &[u32; 4],
@@ -41,7 +41,7 @@ fn is_triangle(
 
 /// The slots at which such a face begins, in one of both orders of the second and the third crossing, with the least
 /// slot of the first.
-fn triangle(
+pub(crate) fn triangle(
     first: &[u32; 4],
     second: &[u32; 4],
     third: &[u32; 4],

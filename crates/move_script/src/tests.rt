@@ -1,16 +1,11 @@
-//! Worked rows, steps taken back, and brackets before and after.
-
-ghost use Rattle.std.specs.Prelude.{◌<◌, IfSome};
+//! Worked rows.
 
 use super::*;
 use crate::edges::fresh;
-use diagram_brackets::bracket_network;
 use diagram_moves::{Factor, MoveFault};
-use pd_reader::{read_pd, torus};
-use plain_sum::plain_sum;
+use pd_reader::{Item, read_pd, torus};
 use planar_check::{Framed, Planar, Sign, check};
-use root_quantum::Params;
-use script_reader::{Step, read_script};
+use script_reader::Step;
 use std::alloc::Global;
 use std::test::*;
 
@@ -22,11 +17,10 @@ const WITH_TRIANGLE: &[u8] = b"PD[X[2,5,4,1],X[3,3,6,5],X[6,2,1,4]]";
 
 const SLID: &[u8] = b"PD[X[4,3,2,5],X[6,5,1,1],X[3,4,6,2]]";
 
-const HOPF: &[u8] = b"PD[X[2,4,3,1],X[4,2,1,3]]";
-
-const FIGURE_EIGHT: &[u8] = b"PD[X[4,2,5,1],X[8,6,1,5],X[6,3,7,4],X[2,7,3,8]]";
-
 const CURLED: &[u8] = b"PD[X[1,1,2,2]]";
+
+/// The edge 1 is one of the triangle's.
+const ANCHORED_TRIANGLE: &[u8] = b"PD[X[2,5,1,4],X[3,3,6,5],X[6,2,4,1]]";
 
 const PLAIN: Factor = Factor { curl: 0, circle: 0 };
 
@@ -161,12 +155,28 @@ fn planar(alloc: Global, text: &[u8]) -> Option<Planar> {
     check(alloc, read_pd(alloc, text).ok()?).ok()
 }
 
-/// Makes a step where the labels leave room for it.
+/// Makes a step that is no slide, where the labels leave room for it.
 fn made(alloc: Global, diagram: &Planar, step: &Step) -> Result<Moved, MoveFault> {
-    if fresh(alloc, diagram.diagram().items())? > GREATEST_LABEL {
+    if step.is_slide() || fresh(alloc, diagram.diagram().items())? > GREATEST_LABEL {
         return Err(MoveFault::Memory);
     }
     apply(alloc, diagram, step)
+}
+
+/// The same with colours, where there are as many as components.
+fn made_coloured(
+    alloc: Global,
+    diagram: &Planar,
+    colours: &[u32],
+    step: &Step,
+) -> Result<Moved, MoveFault> {
+    if step.is_slide() || fresh(alloc, diagram.diagram().items())? > GREATEST_LABEL {
+        return Err(MoveFault::Memory);
+    }
+    if colours.len() != diagram.components() as usize {
+        return Err(MoveFault::Memory);
+    }
+    apply_coloured(alloc, diagram, colours, step)
 }
 
 /// What steps give.
@@ -206,92 +216,85 @@ fn no_room(rt: HostRuntime) -> Result<(), Fail> {
     Ok(())
 }
 
-/// Diagrams without loops, on which every step is tried and taken back.
-const DRAWN: [&[u8]; 6] = [TREFOIL, HOPF, FIGURE_EIGHT, WITH_TRIANGLE, SLID, CURLED];
-
-/// The number of the last crossing of a diagram without loops.
-fn last(diagram: &Planar) -> u32 {
-    diagram.diagram().items().len() as u32
-}
-
-/// An edge that was pushed over another one is taken back.
-#[test]
-fn pushes_taken_back(rt: HostRuntime) -> Result<(), Fail> {
-    for text in DRAWN {
-        let diagram = planar(rt.alloc(), text).ok_or("a diagram")?;
-        for pair in 0..64 {
-            let step = Step::R2 {
-                over: 1 + pair / 8,
-                under: 1 + pair % 8,
-            };
-            if let Ok(moved) = made(rt.alloc(), &diagram, &step) {
-                let second = last(&moved.diagram);
-                let undo = Step::R2Undo {
-                    first: second.saturating_sub(1),
-                    second,
-                };
-                let back = made(rt.alloc(), &moved.diagram, &undo).ok().ok_or("back")?;
-                assert_eq!(rt; back.diagram.diagram().items(), diagram.diagram().items());
-            }
-        }
-    }
-    Ok(())
-}
-
-/// A curl is taken back.
-#[test]
-fn curls_taken_back(rt: HostRuntime) -> Result<(), Fail> {
-    for text in DRAWN {
-        let diagram = planar(rt.alloc(), text).ok_or("a diagram")?;
-        for edge in 1..9 {
-            for sign in [Sign::Plus, Sign::Minus] {
-                if let Ok(moved) = made(rt.alloc(), &diagram, &Step::Curl { edge, sign }) {
-                    let undo = Step::CurlUndo {
-                        crossing: last(&moved.diagram),
-                    };
-                    let back = made(rt.alloc(), &moved.diagram, &undo).ok().ok_or("back")?;
-                    assert_eq!(rt; back.diagram.diagram().items(), diagram.diagram().items());
-                }
-            }
-        }
-    }
-    Ok(())
-}
-
-/// The bracket of a diagram, by all its states.
-fn bracket(alloc: Global, params: &Params, diagram: &Planar) -> Option<u64> {
-    let network = bracket_network(alloc, params, diagram.diagram()).ok()?;
-    plain_sum(alloc, params.ring(), params.loop_value(), &network).ok()
-}
-
-/// Scripts, and the brackets of their diagrams at 41, 2, 5.
-const SCRIPTS: [(&[u8], &[u64]); 3] = [
+/// A diagram, the colours of its components, a step, and the refusal that it has, if any.
+const COLOURED: [(&[u8], &[u32], Step, Option<MoveFault>); 10] = [
     (
-        b"Moves[PD[X[1,4,2,5],X[3,6,4,1],X[5,2,6,3]],R2[1,3],R2Undo[4,5],Curl[1,+]]",
-        &[10, 10, 10, 2],
+        CURLED,
+        &[2],
+        Step::CurlUndo { crossing: 1 },
+        Some(MoveFault::AnchorInside { component: 1 }),
+    ),
+    (CURLED, &[1], Step::CurlUndo { crossing: 1 }, None),
+    (
+        CURLED,
+        &[2],
+        Step::CurlUndo { crossing: 2 },
+        Some(MoveFault::NoCrossing { crossing: 2 }),
     ),
     (
-        b"Moves[PD[X[2,5,4,1],X[3,3,6,5],X[6,2,1,4]],R3[1,2,3],CurlUndo[2]]",
-        &[33, 33, 1],
+        b"PD[Loop[1],X[2,2,3,3]]",
+        &[2, 2],
+        Step::CurlUndo { crossing: 1 },
+        Some(MoveFault::AnchorInside { component: 2 }),
     ),
-    (b"Moves[PD[Loop[1]],BlowUp[+]]", &[6, 36]),
+    (
+        WITH_TRIANGLE,
+        &[2, 2],
+        Step::R3 {
+            first: 1,
+            second: 2,
+            third: 3,
+        },
+        None,
+    ),
+    (
+        ANCHORED_TRIANGLE,
+        &[2, 1],
+        Step::R3 {
+            first: 1,
+            second: 2,
+            third: 3,
+        },
+        Some(MoveFault::AnchorInside { component: 1 }),
+    ),
+    (
+        ANCHORED_TRIANGLE,
+        &[1, 2],
+        Step::R3 {
+            first: 1,
+            second: 2,
+            third: 3,
+        },
+        None,
+    ),
+    (
+        b"PD[X[1,2,3,4],X[3,2,1,4]]",
+        &[3, 1],
+        Step::R2Undo {
+            first: 1,
+            second: 2,
+        },
+        Some(MoveFault::AnchorInside { component: 1 }),
+    ),
+    (
+        b"PD[X[1,2,3,4],X[3,2,1,4]]",
+        &[1, 3],
+        Step::R2Undo {
+            first: 1,
+            second: 2,
+        },
+        None,
+    ),
+    (TREFOIL, &[5], Step::R2 { over: 1, under: 3 }, None),
 ];
 
-/// The brackets along scripts.
+/// Which steps are refused with colours, and why.
 #[test]
-fn scripts(rt: HostRuntime) -> Result<(), Fail> {
-    let params = Params::new(41, 2, 5).ok().ok_or("parameters")?;
-    for (text, values) in SCRIPTS {
-        let script = read_script(rt.alloc(), text).ok().ok_or("a script")?;
-        let mut diagram = check(rt.alloc(), script.diagram).ok().ok_or("planar")?;
-        let mut found = Vec::new(rt.alloc());
-        found.push(bracket(rt.alloc(), &params, &diagram).ok_or("memory")?)?;
-        for step in &script.steps {
-            let moved = made(rt.alloc(), &diagram, step).ok().ok_or("a move")?;
-            diagram = moved.diagram;
-            found.push(bracket(rt.alloc(), &params, &diagram).ok_or("memory")?)?;
-        }
-        assert_eq!(rt; found.as_slice(), values);
+fn coloured_steps(rt: HostRuntime) -> Result<(), Fail> {
+    for (text, colours, step, fault) in COLOURED {
+        let diagram = planar(rt.alloc(), text).ok_or("a diagram")?;
+        let moved = made_coloured(rt.alloc(), &diagram, colours, &step);
+        assert_eq!(rt; moved.err(), fault);
     }
     Ok(())
 }
@@ -308,6 +311,9 @@ fn framings_kept(rt: HostRuntime) -> Result<(), Fail> {
         .ok()
         .ok_or("room")?;
     assert_eq!(rt; blown.planar().components(), 2);
-    assert_eq!(rt; last(blown.planar()), 2);
+    assert_eq!(rt;
+        blown.planar().diagram().items(),
+        [Item::Loop(1), Item::Loop(2)].as_slice()
+    );
     Ok(())
 }

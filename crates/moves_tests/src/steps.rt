@@ -88,7 +88,7 @@ pub(crate) fn all_steps(alloc: Global, sizes: Sizes) -> Result<Vec<Step>, AllocE
 }
 
 /// The steps of which one takes a step back, on a result of these sizes, where a curl is the crossing with the number: the one that undoes it,
-/// every `R2` for an `R2Undo`, every curl for a `CurlUndo`, and none for a blow-up.
+/// every `R2` for an `R2Undo`, every curl for a `CurlUndo`, and none for a blow-up or a slide.
 pub(crate) fn taking_back(
     alloc: Global,
     step: &Step,
@@ -117,6 +117,7 @@ pub(crate) fn taking_back(
         } => push_pairs(&mut steps, sizes)?,
         Step::CurlUndo { crossing: _ } => push_curls(&mut steps, sizes)?,
         Step::BlowUp { sign: _ } => {}
+        Step::Slide { edge: _, along: _ } => {}
     }
     Ok(steps)
 }

@@ -1,6 +1,8 @@
 //! Drawn diagrams and closed braids, on which every step is tried. How many steps are accepted was counted face by face by an independent
 //! program; all of these but the two blow-ups are taken back.
 
+use crate::coloured::try_coloured;
+use crate::slides::{Slides, try_slides};
 use crate::trials::{LEVEL, MODULUS, ROOT, Seen, try_all};
 use braid_closures::closure;
 use braid_trace::read_braid;
@@ -95,4 +97,94 @@ fn steps_on_closed_braids(rt: HostRuntime) {
     for (text, accepted) in BRAIDS {
         assert_eq!(rt; seen_on_closed(rt.alloc(), text), wanted(accepted));
     }
+}
+
+/// The Hopf link, the same with a curl and with curls to come, the torus link of four crossings, a chain of three, the Whitehead link and the Borromean
+/// rings: with framings, the greatest label, and the number of slides that are accepted: the ordered pairs of edges on different components with
+/// a common face.
+const FRAMED: [(&[u8], &[i64], u32, u32); 7] = [
+    (b"PD[X[2,4,3,1],X[4,2,1,3]]", &[0, 0], 4, 8),
+    (b"PD[X[2,4,3,1],X[4,2,6,3],X[6,1,5,5]]", &[1, 0], 6, 14),
+    (b"PD[X[2,4,3,1],X[4,2,1,3]]", &[2, 3], 4, 8),
+    (
+        b"PD[X[6,1,7,2],X[8,3,5,4],X[2,5,3,6],X[4,7,1,8]]",
+        &[1, -2],
+        8,
+        24,
+    ),
+    (
+        b"PD[X[1,6,2,5],X[6,3,5,2],X[3,8,4,7],X[8,1,7,4]]",
+        &[1, -1, 2],
+        8,
+        28,
+    ),
+    (
+        b"PD[X[6,1,7,2],X[10,7,5,8],X[4,5,1,6],X[2,10,3,9],X[8,4,9,3]]",
+        &[0, 1],
+        10,
+        28,
+    ),
+    (
+        b"PD[X[6,1,7,2],X[12,8,9,7],X[4,12,1,11],X[10,5,11,6],X[8,4,5,3],X[2,9,3,10]]",
+        &[0, 0, 1],
+        12,
+        48,
+    ),
+];
+
+/// What is to be seen, where so many slides are accepted.
+fn wanted_slides(accepted: u32) -> Option<Slides> {
+    Some(Slides {
+        accepted,
+        kept: accepted,
+    })
+}
+
+#[test]
+fn slides_at_level_3(rt: HostRuntime) -> Result<(), Fail> {
+    let params = Params::new(13, 2, 3).ok().ok_or("parameters")?;
+    for (text, framings, greatest, accepted) in FRAMED {
+        let seen = try_slides(&rt, rt.alloc(), &params, text, framings, greatest);
+        assert_eq!(rt; seen, wanted_slides(accepted));
+    }
+    Ok(())
+}
+
+/// The first two: the values of the others have more open ends than a sweep takes, or take longer.
+#[test]
+fn slides_at_level_5(rt: HostRuntime) -> Result<(), Fail> {
+    let params = Params::new(41, 2, 5).ok().ok_or("parameters")?;
+    for (text, framings, greatest, accepted) in &FRAMED[..2] {
+        let seen = try_slides(&rt, rt.alloc(), &params, text, framings, *greatest);
+        assert_eq!(rt; seen, wanted_slides(*accepted));
+    }
+    Ok(())
+}
+
+/// The trefoil, the Hopf link, the figure eight, a triangle before and after its slide, 5_2, and a closed braid of eight crossings, with colours up to 3.
+const COLOURED: [(&[u8], &[u32]); 9] = [
+    (b"PD[X[1,4,2,5],X[3,6,4,1],X[5,2,6,3]]", &[2]),
+    (b"PD[X[1,4,2,5],X[3,6,4,1],X[5,2,6,3]]", &[3]),
+    (b"PD[X[2,4,3,1],X[4,2,1,3]]", &[1, 3]),
+    (b"PD[X[2,4,3,1],X[4,2,1,3]]", &[2, 2]),
+    (b"PD[X[4,2,5,1],X[8,6,1,5],X[6,3,7,4],X[2,7,3,8]]", &[2]),
+    (b"PD[X[2,5,4,1],X[3,3,6,5],X[6,2,1,4]]", &[2, 1]),
+    (b"PD[X[4,3,2,5],X[6,5,1,1],X[3,4,6,2]]", &[1, 2]),
+    (
+        b"PD[X[1,4,2,5],X[3,8,4,9],X[5,10,6,1],X[9,6,10,7],X[7,2,8,3]]",
+        &[2],
+    ),
+    (b"BR[3,{1,-2,1,-2,1,-2,1,-2}]", &[1]),
+];
+
+/// Some of Reidemeister's second and third moves are accepted on each, and all of these keep the coloured value.
+#[test]
+fn coloured_moves(rt: HostRuntime) -> Result<(), Fail> {
+    let params = Params::new(41, 2, 5).ok().ok_or("parameters")?;
+    for (text, colours) in COLOURED {
+        let seen = try_coloured(&rt, rt.alloc(), &params, text, colours).ok_or("a diagram")?;
+        assert_eq!(rt; seen.kept, seen.accepted);
+        assert!(rt; seen.accepted > 0);
+    }
+    Ok(())
 }

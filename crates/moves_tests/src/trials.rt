@@ -7,7 +7,6 @@ ghost use Rattle.planar_check.specs.Components.{greatest};
 
 use crate::steps::{Sizes, all_steps, crossings, new_crossing, taking_back};
 use arc_pairing::Turns;
-use diagram_brackets::bracket_network;
 use diagram_moves::{Factor, MoveFault};
 use frontier_sweep::{Chooser, Order, contract_in_order};
 use move_script::{GREATEST_LABEL, Moved, apply};
@@ -15,6 +14,7 @@ use pd_reader::{Item, labels};
 use planar_check::Planar;
 use root_quantum::Params;
 use script_reader::Step;
+use skein_network::plain_cable;
 use std::alloc::{AllocError, Global};
 
 /// A prime modulus, a root A of the order 40 and the level 10.
@@ -43,7 +43,7 @@ pub(crate) struct Seen {
 }
 
 /// The greatest label, or 0.
-fn greatest_label(alloc: Global, items: &[Item]) -> Result<u32, AllocError>
+pub(crate) fn greatest_label(alloc: Global, items: &[Item]) -> Result<u32, AllocError>
     requires { IsDiagram items.now }
     ensures { IfOk result (λ label. label ≡ greatest (labels item_labels items.now)) }
 {
@@ -55,9 +55,9 @@ fn greatest_label(alloc: Global, items: &[Item]) -> Result<u32, AllocError>
     Ok(greatest)
 }
 
-/// Makes a step where the labels leave room for it.
+/// Makes a step that is no slide, where the labels leave room for it.
 fn made(alloc: Global, diagram: &Planar, step: &Step) -> Result<Moved, MoveFault> {
-    if greatest_label(alloc, diagram.diagram().items())? > GREATEST_LABEL {
+    if step.is_slide() || greatest_label(alloc, diagram.diagram().items())? > GREATEST_LABEL {
         return Err(MoveFault::Memory);
     }
     apply(alloc, diagram, step)
@@ -65,7 +65,7 @@ fn made(alloc: Global, diagram: &Planar, step: &Step) -> Result<Moved, MoveFault
 
 /// The bracket.
 fn bracket(alloc: Global, params: &Params, diagram: &Planar) -> Option<u64> {
-    let network = bracket_network(alloc, params, diagram.diagram()).ok()?;
+    let network = plain_cable(alloc, params, diagram.diagram()).ok()?;
     let mut turns = Turns::new();
     let greedy = Chooser::keep(Order::Greedy);
     contract_in_order(alloc, params, &network, &greedy, &mut turns).ok()

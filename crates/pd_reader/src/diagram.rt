@@ -36,8 +36,9 @@ impl Model for Diagram {
 /// The most items of a diagram or a net.
 pub const MOST_ITEMS: u32 = 256;
 
-/// The first reason why the items are no diagram, of labels that are in range.
-fn check_items<I: Labelled>(alloc: Global, items: &[I]) -> Result<(), DiagramFault>
+/// The items, where there is no reason why they are no diagram, of labels that are in range.
+fn checked<I: Labelled + Copy>(alloc: Global, items: &[I]) -> Result<Vec<I>, DiagramFault>
+    ensures made { IfOk result (λ checked. checked.items ≡ items.now) }
     ensures sized { OnOk result (AllByRecursion I.has_size items.now) }
     ensures ok { OnOk result (refusal I.labels items.now ≡ None) }
     ensures err { IfErr result (λ fault. (fault ≡ DiagramFault.Memory) ⊎ (refusal I.labels items.now ≡ Some fault)) }
@@ -51,7 +52,7 @@ fn check_items<I: Labelled>(alloc: Global, items: &[I]) -> Result<(), DiagramFau
             label,
             count: count as u32,
         }),
-        None => Ok(()),
+        None => Ok(Vec::from_slice(alloc, items)?),
     }
 }
 
@@ -67,9 +68,9 @@ impl Diagram {
         // A refusal names the first reason, but where memory runs out.
         ensures refused { IfErr result (λ fault. (fault ≡ DiagramFault.Memory) ⊎ (refusal item_labels items.now ≡ Some fault)) }
     {
-        check_items(alloc, items)?;
-        let items = Vec::from_slice(alloc, items)?;
-        Ok(Diagram { items })
+        Ok(Diagram {
+            items: checked(alloc, items)?,
+        })
     }
 
     /// The items, in the order in which they were given.
@@ -113,9 +114,9 @@ impl NetDiagram {
         // A refusal names the first reason, but where memory runs out.
         ensures refused { IfErr result (λ fault. (fault ≡ DiagramFault.Memory) ⊎ (refusal net_item_labels items.now ≡ Some fault)) }
     {
-        check_items(alloc, items)?;
-        let items = Vec::from_slice(alloc, items)?;
-        Ok(NetDiagram { items })
+        Ok(NetDiagram {
+            items: checked(alloc, items)?,
+        })
     }
 
     /// The items, in the order in which they were given.

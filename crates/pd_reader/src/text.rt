@@ -1,10 +1,12 @@
 //! The texts of diagrams and nets.
 
-ghost use Rattle.std.specs.Prelude.{◌≡◌, ◌≤◌, None, length, IfOk, IfErr, List, refl};
-ghost use Rattle.text_shapes.specs.Readers.{Found, Missed};
+ghost use Rattle.std.specs.Prelude.{◌≡◌, ◌≤◌, None, length, IfOk, IfErr, List, [], ◌∷◌, codes, refl};
+ghost use Rattle.text_shapes.specs.Tokens.{number_tokens};
+ghost use Rattle.text_shapes.specs.Shapes.{call, AreOf};
+ghost use Rattle.text_shapes.specs.Readers.{Found, Missed, OtherHeadsStop};
 ghost use Rattle.pd_reader.specs.Items.{item_labels, net_item_labels};
 ghost use Rattle.pd_reader.specs.Diagrams.{refusal};
-ghost use Rattle.pd_reader.specs.Texts.{IsTextItem, item_tokens, IsTextNetItem, net_item_tokens, IsPdText, IsNetText};
+ghost use Rattle.pd_reader.specs.Texts.{IsOfKind, IsTextItem, item_tokens, IsTextNetItem, net_item_tokens, IsPdText, IsNetText};
 ghost use Rattle.pd_reader.specs.Faults.{IsNamed, cause};
 ghost use Rattle.pd_reader.specs.Answers.{Answers};
 ghost use Rattle.pd_reader.specs.Refusals.{IsPdRefusal, IsNetRefusal};
@@ -17,6 +19,18 @@ use crate::fault::{Stop, TextFault, place_at};
 use crate::item::{Item, NetItem};
 use crate::list::{TextItem, read_text};
 use std::alloc::Global;
+
+/// Reads `Loop[n]`, and says where the call ends, or how far the bytes go on as one.
+fn read_loop(bytes: &[u8], at: usize) -> Result<(u32, usize), usize>
+    requires { at ≤ length bytes.now }
+    ensures ok { IfOk result (λ found. Found (AreOf IsOfKind (0 ∷ [])) (call number_tokens (codes "Loop")) bytes.now at (found.0 ∷ []) found.1) }
+    ensures err { IfErr result (λ p. Missed (AreOf IsOfKind (0 ∷ [])) (call number_tokens (codes "Loop")) bytes.now at p) }
+    ensures others { IfOk result (λ found. OtherHeadsStop number_tokens bytes.now at (codes "Loop") found.1) }
+{
+    let mut label = [0; 1];
+    let next = read_call(bytes, at, b"Loop", &mut label)?;
+    Ok((label[0], next))
+}
 
 impl TextItem for Item {
     ghost fits = { IsTextItem };
@@ -31,9 +45,8 @@ impl TextItem for Item {
             Ok(next) => return Ok((Item::X(slots), next)),
             Err(p) => p,
         };
-        let mut label = [0; 1];
-        let q = match read_call(bytes, at, b"Loop", &mut label) {
-            Ok(next) => return Ok((Item::Loop(label[0]), next)),
+        let q = match read_loop(bytes, at) {
+            Ok((label, next)) => return Ok((Item::Loop(label), next)),
             Err(q) => q,
         };
         Err(p.max(q))
@@ -58,9 +71,8 @@ impl TextItem for NetItem {
             Ok(next) => return Ok((NetItem::Y(edges), next)),
             Err(q) => q,
         };
-        let mut label = [0; 1];
-        let r = match read_call(bytes, at, b"Loop", &mut label) {
-            Ok(next) => return Ok((NetItem::Loop(label[0]), next)),
+        let r = match read_loop(bytes, at) {
+            Ok((label, next)) => return Ok((NetItem::Loop(label), next)),
             Err(r) => r,
         };
         Err(p.max(q).max(r))

@@ -1,6 +1,7 @@
 mod Examples
 pub mod Pushes
 pub mod Others
+pub mod WaysOn
 pub mod OtherPlaces
 pub mod DistinctLabels
 pub mod Ranks

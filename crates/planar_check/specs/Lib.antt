@@ -7,3 +7,4 @@ pub mod Directions
 pub mod Framings
 pub mod Tables
 pub mod Laws
+pub mod Cycles

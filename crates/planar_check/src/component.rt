@@ -11,7 +11,7 @@ ghost use Rattle.planar_check.specs.Places.{crossings_of};
 ghost use Rattle.planar_check.specs.Components.{item_strands, strand_edges, distinct, rank, component_least};
 ghost use Rattle.planar_check.specs.Tables.{ArePlaces, AreComponents, AreEntered, AreCrossings};
 
-use crate::cycles::least_in_walks;
+use crate::cycles::{Way, least_in_cycles};
 use crate::distinct::{distinct, rank};
 use crate::placed::Places;
 use crate::sign::{Signed, entered, leasts_at, signed_crossings};
@@ -119,7 +119,7 @@ impl Components {
         let names = distinct(alloc, &labels)?;
         let leasts = leasts_of(alloc, items, &names)?;
         let all = own_names(alloc, &names, &leasts)?;
-        let walks = least_in_walks(alloc, &places.after, &places.others)?;
+        let walks = least_in_cycles(alloc, Way::Walk, &places.after, &places.others)?;
         let there = leasts_at(alloc, &places.labels, &names, &leasts)?;
         let entered = entered(alloc, &places.firsts, &walks, &there)?;
         let crossings = signed_crossings(alloc, &entered, &there, &all, places.item_count)?;

@@ -5,7 +5,7 @@ ghost use Rattle.std.specs.List.{range_with_len};
 ghost use Rattle.planar_check.specs.Places.{item_slots, net_item_slots, slot_lists, slot_after};
 ghost use Rattle.planar_check.specs.Tables.{AreLists, ArePlaces};
 
-use crate::cycles::least_in_faces;
+use crate::cycles::{Way, least_in_cycles};
 use crate::other::{LabelPlaces, label_places};
 use pd_reader::{Item, NetItem};
 use std::alloc::{AllocError, Global};
@@ -141,7 +141,7 @@ impl Places {
             item_count,
         } = Slots::of(alloc, items)?;
         let LabelPlaces { firsts, others } = label_places(alloc, &labels)?;
-        let faces = least_in_faces(alloc, &after, &others)?;
+        let faces = least_in_cycles(alloc, Way::Face, &after, &others)?;
         Ok(Places {
             labels,
             after,

@@ -6,7 +6,7 @@ use Rattle.pd_reader.specs.declared.item.Item.{Item}
 use Rattle.planar_check.specs.declared.fault.PlanarFault.TheVariants.{NotPlanar}
 use Rattle.planar_check.specs.Places.{crossings_of, item_slots}
 use Rattle.planar_check.specs.Planar.{IsPlanar, planar_refusal, face_count, wanted_faces}
-use Rattle.script_reader.specs.declared.step.Step.TheVariants.{R2, R2Undo, R3, Curl, CurlUndo, BlowUp}
+use Rattle.script_reader.specs.declared.step.Step.TheVariants.{R2, R2Undo, R3, Curl, CurlUndo, BlowUp, Slide}
 use Rattle.diagram_moves.specs.Moves.{move}
 use Rattle.diagram_moves.specs.Rewriting.{crossing_labels}
 use Rattle.diagram_moves.specs.Scripts.{judged, kept_planar}
@@ -28,6 +28,7 @@ moves_planar items (Curl e sign) moved pd planar h =
     ⊎_elim (λ there. (curl_planar items e sign moved pd there h).0 planar) (λ out. (curl_on_loop_planar items e sign moved pd out h).0 planar) (cases_Bool (is_member ◌==◌ (crossing_labels items) e))
 moves_planar items (CurlUndo c) moved pd planar h = curl_undo_planar items c moved pd planar h
 moves_planar items (BlowUp sign) moved pd planar h = (blow_up_planar items sign moved h).0 planar
+moves_planar items (Slide e f) moved pd planar h = absurd cc
 
 -- planar items are not refused
 pub not_refused : (items : List Item) → IsPlanar item_slots items → planar_refusal item_slots items ≡ None

@@ -1,5 +1,5 @@
 -- A curl on an edge keeps a diagram planar.
-use Rattle.std.proofs.Common.{◌≡◌, ◌≢◌, ◌≤◌, ◌<◌, ◌↔◌, ℕ, ◌+◌, ◌*◌, ◌==◌, true, false, cond, not, ltb, List, [], ◌∷◌, ◌++◌, length, slice_index, refl, sym, ap, ◌∙◌, subst, arith, ⊎_elim, append-nil, Ok}
+use Rattle.std.proofs.Common.{◌≡◌, ◌≢◌, ◌≤◌, ◌<◌, ◌↔◌, ℕ, ◌+◌, ◌-◌, ◌*◌, ◌==◌, true, false, cond, not, ltb, List, [], ◌∷◌, ◌++◌, length, slice_index, refl, sym, ap, ◌∙◌, subst, arith, ⊎_elim, append-nil, Ok}
 use Rattle.std.specs.List.{range_with_len}
 use Rattle.std.specs.Set.{is_member}
 use Rattle.std.proofs.lemmas.Bool.{eq-eqb, eqb-true, cases_Bool, or_cases, or_left, or_right, ltb-true}
@@ -245,91 +245,123 @@ module _ (items : List Item) (e : ℕ) (pd : IsPairedDiagram items) (there : is_
       let c = front_long items e sign pd there in
       omega (arith, a, b, c, h)
 
+  -- the curl of a sign, at the ends u and v of its edge: u is joined to the slot i of the new crossing, v to the slot j behind it, and the
+  -- slots k and l that follow to each other
+  record IsRound (s : Sign) (u v i j k l : ℕ) : Type 0 where
+    low_u : u < size
+    low_v : v < size
+    to_v : other_place (place_labels items) u ≡ v
+    to_u : other_place (place_labels items) v ≡ u
+    slots_are : (i < 4) × (j < 4) × (k < 4) × (l < 4)
+    follow : (next_slot (size + i) ≡ size + j) × (next_slot (size + j) ≡ size + k) × (next_slot (size + k) ≡ size + l) × (next_slot (size + l) ≡ size + i)
+    differ : (i ≢ j) × (i ≢ k) × (i ≢ l) × (j ≢ k) × (j ≢ l) × (k ≢ l)
+    all_four : (w : ℕ) → w < 4 → w ≢ i → w ≢ j → w ≢ k → w ≡ l
+    label_u : slice_index (new items e s pd there) u ≡ slice_index (slots items e s pd there) i
+    label_v : slice_index (new items e s pd there) v ≡ slice_index (slots items e s pd there) j
+    label_k : slice_index (slots items e s pd there) k ≡ slice_index (slots items e s pd there) l
+    kept : (x : ℕ) → is_member ◌==◌ (all_places items) x ≡ true → x ≢ u → x ≢ v → other_place (new items e s pd there) x ≡ other_place (place_labels items) x
+
+  module _ (s : Sign) (pd2 : IsPairedDiagram (moved items e s pd there)) (long : length (new items e s pd there) ≡ size + 4) (u v i j k l : ℕ) (is : IsRound s u v i j k l) where
+    far : (a b : ℕ) → a ≢ b → size + a ≢ size + b
+    far a b ne h = ne (omega (arith, h))
+
+    -- an end of the edge and the slot that it is joined to
+    joined : (x w : ℕ) → x < size → w < 4 → slice_index (new items e s pd there) x ≡ slice_index (slots items e s pd there) w →
+        (other_place (new items e s pd there) x ≡ size + w) × (other_place (new items e s pd there) (size + w) ≡ x)
+    joined x w low four same =
+        let label = same ∙ sym (new_label items e s pd there w) in (
+          drawn_is items e s pd there pd2 long x (size + w) (omega (arith, low)) (omega (arith, four)) (omega (arith, low)) label,
+          drawn_is items e s pd there pd2 long (size + w) x (omega (arith, four)) (omega (arith, low)) (λ h. omega (arith, low, h)) (sym label),
+        )
+
+    looped : (w z : ℕ) → w < 4 → z < 4 → w ≢ z → slice_index (slots items e s pd there) w ≡ slice_index (slots items e s pd there) z → other_place (new items e s pd there) (size + w) ≡ size + z
+    looped w z lw lz ne same =
+        drawn_is items e s pd there pd2 long (size + w) (size + z) (omega (arith, lw)) (omega (arith, lz)) (far w z ne) (new_label items e s pd there w ∙ (same ∙ sym (new_label items e s pd there z)))
+
+    is_curl : IsCurl (all_places items) next_slot (other_place (place_labels items)) (other_place (new items e s pd there)) u v (size + i) (size + j) (size + k) (size + l)
+    is_curl =
+        let to_i = joined u i is.low_u is.slots_are.0 is.label_u in
+        let to_j = joined v j is.low_v is.slots_are.1 is.label_v in
+        record {
+          has_p = range_has size u is.low_u;
+          has_q = range_has size v is.low_v;
+          pq = is.to_v;
+          qp = is.to_u;
+          turn_in = turn_inside items e s pd there pd2 long;
+          other_in = other_inside items e s pd there pd2 long;
+          new_a = new_name items e s pd there i;
+          new_b = new_name items e s pd there j;
+          new_c = new_name items e s pd there k;
+          new_d = new_name items e s pd there l;
+          distinct = (far i j is.differ.0, far i k is.differ.1, far i l is.differ.2, far j k is.differ.3, far j l is.differ.4, far k l is.differ.5);
+          ta = is.follow.0;
+          tb = is.follow.1;
+          tc = is.follow.2;
+          td = is.follow.3;
+          dp = to_i.0;
+          da = to_i.1;
+          dq = to_j.0;
+          db = to_j.1;
+          dc = looped k l is.slots_are.2 is.slots_are.3 is.differ.5 is.label_k;
+          dd = looped l k is.slots_are.3 is.slots_are.2 (λ h. is.differ.5 (sym h)) (sym is.label_k);
+          kept = is.kept;
+        }
+
+    -- a place that is none of the old ones, nor the first three of the new ones, is the fourth
+    fourth : (x : ℕ) → x < length (new items e s pd there) → (x < size → ⊥) → x ≢ size + i → x ≢ size + j → x ≢ size + k → x ≡ size + l
+    fourth x low high ni nj nk = ⊎_elim (λ t. absurd (high (ltb-true x size t)))
+        (λ t.
+        let from : size ≤ x = grind (arith, nat_tests, t) in
+        let w = is.all_four (x - size) (omega (arith, low, long, from)) (λ h. ni (omega (arith, h, from))) (λ h. nj (omega (arith, h, from))) (λ h. nk (omega (arith, h, from))) in
+        omega (arith, w, from))
+        (cases_Bool (ltb x size))
+
+    round_planar : IsPlanar item_slots items ↔ IsPlanar item_slots (moved items e s pd there)
+    round_planar =
+        let f = is.slots_are in
+        counts items e s pd there pd2 long u v (size + i) (size + j) (size + k) (size + l) is_curl
+        (four_more size (length (new items e s pd there)) (size + i) (size + j) (size + k) (size + l) long (omega (arith, long, f)) (omega (arith, long, f)) (omega (arith, long, f)) (omega (arith, long, f)) fourth)
+
   plus_planar : IsPairedDiagram (moved items e signs.Plus pd there) → IsPlanar item_slots items ↔ IsPlanar item_slots (moved items e signs.Plus pd there)
   plus_planar pd2 =
       let s = signs.Plus in
       let long = long_of s refl in
-      let k = size in
-      let first = p items e s pd there in
-      let second = q items e s pd there in
-      let fi = first_is items e s pd there in
-      let pl = p_label items e s pd there in
-      let ql = q_label items e s pd there in
-      let lp = fi.0 in
-      let lq = q_low items e s pd there in
-      let pairs = pairing items e s pd there in
-      let at = new_label items e s pd there in
-      let drawn = drawn_is items e s pd there pd2 long in
-      counts items e s pd there pd2 long first second (k + 0) (k + 1) (k + 2) (k + 3)
+      round_planar s pd2 long (p items e s pd there) (q items e s pd there) 0 1 2 3
       record {
-        has_p = range_has k first lp;
-        has_q = range_has k second lq;
-        pq = refl;
-        qp = pairs.twice first lp;
-        turn_in = turn_inside items e s pd there pd2 long;
-        other_in = other_inside items e s pd there pd2 long;
-        new_a = new_name items e s pd there 0;
-        new_b = new_name items e s pd there 1;
-        new_c = new_name items e s pd there 2;
-        new_d = new_name items e s pd there 3;
-        distinct = (omega arith, omega arith, omega arith, omega arith, omega arith, omega arith);
-        ta = t0 items e s pd there pd2 long;
-        tb = t1 items e s pd there pd2 long;
-        tc = t2 items e s pd there pd2 long;
-        td = t3 items e s pd there pd2 long;
-        dp = drawn first (k + 0) (omega (arith, lp)) (omega arith) (omega (arith, lp)) (pl ∙ sym (at 0));
-        da = drawn (k + 0) first (omega arith) (omega (arith, lp)) (omega (arith, lp)) (at 0 ∙ sym pl);
-        dq = drawn second (k + 1) (omega (arith, lq)) (omega arith) (omega (arith, lq)) (ql ∙ sym (at 1));
-        db = drawn (k + 1) second (omega arith) (omega (arith, lq)) (omega (arith, lq)) (at 1 ∙ sym ql);
-        dc = drawn (k + 2) (k + 3) (omega arith) (omega arith) (omega arith) (at 2 ∙ sym (at 3));
-        dd = drawn (k + 3) (k + 2) (omega arith) (omega arith) (omega arith) (at 3 ∙ sym (at 2));
+        low_u = (first_is items e s pd there).0;
+        low_v = q_low items e s pd there;
+        to_v = refl;
+        to_u = (pairing items e s pd there).twice (p items e s pd there) (first_is items e s pd there).0;
+        slots_are = (omega arith, omega arith, omega arith, omega arith);
+        follow = (t0 items e s pd there pd2 long, t1 items e s pd there pd2 long, t2 items e s pd there pd2 long, t3 items e s pd there pd2 long);
+        differ = (omega arith, omega arith, omega arith, omega arith, omega arith, omega arith);
+        all_four = λ w l a b c. omega (arith, l, a, b, c);
+        label_u = p_label items e s pd there;
+        label_v = q_label items e s pd there;
+        label_k = refl;
         kept = kept_other items e s pd there pd2 long;
       }
-      (four_more k (length (new items e s pd there)) (k + 0) (k + 1) (k + 2) (k + 3) long (omega (arith, long)) (omega (arith, long)) (omega (arith, long)) (omega (arith, long))
-      (λ x l high na nb nc. ⊎_elim (λ t. absurd (high (ltb-true x k t))) (λ t. let h : k ≤ x = grind (arith, nat_tests, t) in omega (arith, long, l, h, na, nb, nc)) (cases_Bool (ltb x k))))
 
+  -- the other sign turns the crossing by a slot, and exchanges the ends
   minus_planar : IsPairedDiagram (moved items e signs.Minus pd there) → IsPlanar item_slots items ↔ IsPlanar item_slots (moved items e signs.Minus pd there)
   minus_planar pd2 =
       let s = signs.Minus in
       let long = long_of s refl in
-      let k = size in
-      let first = p items e s pd there in
-      let second = q items e s pd there in
-      let fi = first_is items e s pd there in
-      let pl = p_label items e s pd there in
-      let ql = q_label items e s pd there in
-      let lp = fi.0 in
-      let lq = q_low items e s pd there in
-      let pairs = pairing items e s pd there in
-      let at = new_label items e s pd there in
-      let drawn = drawn_is items e s pd there pd2 long in
-      counts items e s pd there pd2 long second first (k + 3) (k + 0) (k + 1) (k + 2)
+      round_planar s pd2 long (q items e s pd there) (p items e s pd there) 3 0 1 2
       record {
-        has_p = range_has k second lq;
-        has_q = range_has k first lp;
-        pq = pairs.twice first lp;
-        qp = refl;
-        turn_in = turn_inside items e s pd there pd2 long;
-        other_in = other_inside items e s pd there pd2 long;
-        new_a = new_name items e s pd there 3;
-        new_b = new_name items e s pd there 0;
-        new_c = new_name items e s pd there 1;
-        new_d = new_name items e s pd there 2;
-        distinct = (omega arith, omega arith, omega arith, omega arith, omega arith, omega arith);
-        ta = t3 items e s pd there pd2 long;
-        tb = t0 items e s pd there pd2 long;
-        tc = t1 items e s pd there pd2 long;
-        td = t2 items e s pd there pd2 long;
-        dp = drawn second (k + 3) (omega (arith, lq)) (omega arith) (omega (arith, lq)) (ql ∙ sym (at 3));
-        da = drawn (k + 3) second (omega arith) (omega (arith, lq)) (omega (arith, lq)) (at 3 ∙ sym ql);
-        dq = drawn first (k + 0) (omega (arith, lp)) (omega arith) (omega (arith, lp)) (pl ∙ sym (at 0));
-        db = drawn (k + 0) first (omega arith) (omega (arith, lp)) (omega (arith, lp)) (at 0 ∙ sym pl);
-        dc = drawn (k + 1) (k + 2) (omega arith) (omega arith) (omega arith) (at 1 ∙ sym (at 2));
-        dd = drawn (k + 2) (k + 1) (omega arith) (omega arith) (omega arith) (at 2 ∙ sym (at 1));
+        low_u = q_low items e s pd there;
+        low_v = (first_is items e s pd there).0;
+        to_v = (pairing items e s pd there).twice (p items e s pd there) (first_is items e s pd there).0;
+        to_u = refl;
+        slots_are = (omega arith, omega arith, omega arith, omega arith);
+        follow = (t3 items e s pd there pd2 long, t0 items e s pd there pd2 long, t1 items e s pd there pd2 long, t2 items e s pd there pd2 long);
+        differ = (omega arith, omega arith, omega arith, omega arith, omega arith, omega arith);
+        all_four = λ w l a b c. omega (arith, l, a, b, c);
+        label_u = q_label items e s pd there;
+        label_v = p_label items e s pd there;
+        label_k = refl;
         kept = (λ x mem np nq. kept_other items e s pd there pd2 long x mem nq np);
       }
-      (four_more k (length (new items e s pd there)) (k + 3) (k + 0) (k + 1) (k + 2) long (omega (arith, long)) (omega (arith, long)) (omega (arith, long)) (omega (arith, long))
-      (λ x l high na nb nc. ⊎_elim (λ t. absurd (high (ltb-true x k t))) (λ t. let h : k ≤ x = grind (arith, nat_tests, t) in omega (arith, long, l, h, na, nb, nc)) (cases_Bool (ltb x k))))
 
   sign_planar : (sign : Sign) → IsPairedDiagram (moved items e sign pd there) → IsPlanar item_slots items ↔ IsPlanar item_slots (moved items e sign pd there)
   sign_planar signs.Plus pd2 = plus_planar pd2

@@ -11,7 +11,7 @@ use Rattle.diagram_moves.specs.declared.fault.MoveFault.TheVariants.{NoEdge, NoC
 use Rattle.diagram_moves.specs.Moves.{move, given, unless, finished, is_edge, is_loop, same_face, second_place, first_place_of, is_bigon, slot_pairs, is_triangle, slot_triples, is_curl, four}
 use Rattle.diagram_moves.specs.Rewriting.{crossing_at, fresh}
 use Rattle.script_reader.specs.declared.step.Step.{Step}
-use Rattle.script_reader.specs.declared.step.Step.TheVariants.{R2, R2Undo, R3, Curl, CurlUndo, BlowUp}
+use Rattle.script_reader.specs.declared.step.Step.TheVariants.{R2, R2Undo, R3, Curl, CurlUndo, BlowUp, Slide}
 use Rattle.diagram_moves.specs.Steps.{Answer, Moved}
 
 -- no answer of that kind
@@ -93,3 +93,4 @@ plain_move items (CurlUndo c) =
     plain_given (find (is_curl here) four) NotCurl _ not_curl (λ s.
     plain_finished _ _))
 plain_move items (BlowUp sign) = plain_finished record { curl = pos 0; circle = 1 } (items ++ item.Loop (fresh items) ∷ [])
+plain_move items (Slide e f) = no_edge e

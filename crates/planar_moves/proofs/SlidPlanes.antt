@@ -272,34 +272,16 @@ module _ (items : List Item) (pd : IsPairedDiagram items)
 
   new_again : (x : ℕ) → sigma (back_to x) ≡ x
   new_again = by_corner (λ z. sigma (back_to z) ≡ z)
-      (ap sigma back_a0 ∙ sigma_a2)
-      (ap sigma back_a1 ∙ sigma_a3)
-      (ap sigma back_a2 ∙ sigma_c1)
-      (ap sigma back_a3 ∙ sigma_b0)
-      (ap sigma back_b0 ∙ sigma_b2)
-      (ap sigma back_b1 ∙ sigma_b3)
-      (ap sigma back_b2 ∙ sigma_a1)
-      (ap sigma back_b3 ∙ sigma_c0)
-      (ap sigma back_c0 ∙ sigma_c2)
-      (ap sigma back_c1 ∙ sigma_c3)
-      (ap sigma back_c2 ∙ sigma_b1)
-      (ap sigma back_c3 ∙ sigma_a0)
+      (ap sigma back_a0 ∙ sigma_a2) (ap sigma back_a1 ∙ sigma_a3) (ap sigma back_a2 ∙ sigma_c1) (ap sigma back_a3 ∙ sigma_b0)
+      (ap sigma back_b0 ∙ sigma_b2) (ap sigma back_b1 ∙ sigma_b3) (ap sigma back_b2 ∙ sigma_a1) (ap sigma back_b3 ∙ sigma_c0)
+      (ap sigma back_c0 ∙ sigma_c2) (ap sigma back_c1 ∙ sigma_c3) (ap sigma back_c2 ∙ sigma_b1) (ap sigma back_c3 ∙ sigma_a0)
       (λ z a b e. ap sigma (back_out z a b e) ∙ sigma_out z a b e)
 
   old_again : (x : ℕ) → back_to (sigma x) ≡ x
   old_again = by_corner (λ z. back_to (sigma z) ≡ z)
-      (ap back_to sigma_a0 ∙ back_c3)
-      (ap back_to sigma_a1 ∙ back_b2)
-      (ap back_to sigma_a2 ∙ back_a0)
-      (ap back_to sigma_a3 ∙ back_a1)
-      (ap back_to sigma_b0 ∙ back_a3)
-      (ap back_to sigma_b1 ∙ back_c2)
-      (ap back_to sigma_b2 ∙ back_b0)
-      (ap back_to sigma_b3 ∙ back_b1)
-      (ap back_to sigma_c0 ∙ back_b3)
-      (ap back_to sigma_c1 ∙ back_a2)
-      (ap back_to sigma_c2 ∙ back_c0)
-      (ap back_to sigma_c3 ∙ back_c1)
+      (ap back_to sigma_a0 ∙ back_c3) (ap back_to sigma_a1 ∙ back_b2) (ap back_to sigma_a2 ∙ back_a0) (ap back_to sigma_a3 ∙ back_a1)
+      (ap back_to sigma_b0 ∙ back_a3) (ap back_to sigma_b1 ∙ back_c2) (ap back_to sigma_b2 ∙ back_b0) (ap back_to sigma_b3 ∙ back_b1)
+      (ap back_to sigma_c0 ∙ back_b3) (ap back_to sigma_c1 ∙ back_a2) (ap back_to sigma_c2 ∙ back_c0) (ap back_to sigma_c3 ∙ back_c1)
       (λ z a b e. ap back_to (sigma_out z a b e) ∙ back_out z a b e)
 
   low_a0 : a0 < n
@@ -338,36 +320,21 @@ module _ (items : List Item) (pd : IsPairedDiagram items)
   low_c3 : c3 < n
   low_c3 = corner_low items f (j + 3) beyond pd too
 
+  led : {x y z : ℕ} → y ≡ z → z < n → x < n → y < n
+  led e l h = omega (arith, e, l)
+
   sigma_low : (x : ℕ) → x < n → sigma x < n
   sigma_low = by_corner (λ z. z < n → sigma z < n)
-      (λ h. (let e = sigma_a0 in let w = low_c3 in omega (arith, e, w)))
-      (λ h. (let e = sigma_a1 in let w = low_b2 in omega (arith, e, w)))
-      (λ h. (let e = sigma_a2 in let w = low_a0 in omega (arith, e, w)))
-      (λ h. (let e = sigma_a3 in let w = low_a1 in omega (arith, e, w)))
-      (λ h. (let e = sigma_b0 in let w = low_a3 in omega (arith, e, w)))
-      (λ h. (let e = sigma_b1 in let w = low_c2 in omega (arith, e, w)))
-      (λ h. (let e = sigma_b2 in let w = low_b0 in omega (arith, e, w)))
-      (λ h. (let e = sigma_b3 in let w = low_b1 in omega (arith, e, w)))
-      (λ h. (let e = sigma_c0 in let w = low_b3 in omega (arith, e, w)))
-      (λ h. (let e = sigma_c1 in let w = low_a2 in omega (arith, e, w)))
-      (λ h. (let e = sigma_c2 in let w = low_c0 in omega (arith, e, w)))
-      (λ h. (let e = sigma_c3 in let w = low_c1 in omega (arith, e, w)))
+      (led sigma_a0 low_c3) (led sigma_a1 low_b2) (led sigma_a2 low_a0) (led sigma_a3 low_a1)
+      (led sigma_b0 low_a3) (led sigma_b1 low_c2) (led sigma_b2 low_b0) (led sigma_b3 low_b1)
+      (led sigma_c0 low_b3) (led sigma_c1 low_a2) (led sigma_c2 low_c0) (led sigma_c3 low_c1)
       (λ z a b e h. (let s = sigma_out z a b e in omega (arith, s, h)))
 
   back_low : (x : ℕ) → x < n → back_to x < n
   back_low = by_corner (λ z. z < n → back_to z < n)
-      (λ h. (let e = back_a0 in let w = low_a2 in omega (arith, e, w)))
-      (λ h. (let e = back_a1 in let w = low_a3 in omega (arith, e, w)))
-      (λ h. (let e = back_a2 in let w = low_c1 in omega (arith, e, w)))
-      (λ h. (let e = back_a3 in let w = low_b0 in omega (arith, e, w)))
-      (λ h. (let e = back_b0 in let w = low_b2 in omega (arith, e, w)))
-      (λ h. (let e = back_b1 in let w = low_b3 in omega (arith, e, w)))
-      (λ h. (let e = back_b2 in let w = low_a1 in omega (arith, e, w)))
-      (λ h. (let e = back_b3 in let w = low_c0 in omega (arith, e, w)))
-      (λ h. (let e = back_c0 in let w = low_c2 in omega (arith, e, w)))
-      (λ h. (let e = back_c1 in let w = low_c3 in omega (arith, e, w)))
-      (λ h. (let e = back_c2 in let w = low_b1 in omega (arith, e, w)))
-      (λ h. (let e = back_c3 in let w = low_a0 in omega (arith, e, w)))
+      (led back_a0 low_a2) (led back_a1 low_a3) (led back_a2 low_c1) (led back_a3 low_b0)
+      (led back_b0 low_b2) (led back_b1 low_b3) (led back_b2 low_a1) (led back_b3 low_c0)
+      (led back_c0 low_c2) (led back_c1 low_c3) (led back_c2 low_b1) (led back_c3 low_a0)
       (λ z a b e h. (let s = back_out z a b e in omega (arith, s, h)))
 
   -- ---- labels
@@ -468,77 +435,9 @@ module _ (items : List Item) (pd : IsPairedDiagram items)
     next_low : (x : ℕ) → x < n → next_slot x < n
     next_low x h = omega (arith, h, old_long)
 
-    next_a0 : next_slot a0 ≡ a1
-    next_a0 = let low = low_c in omega (arith, low)
-
-    next_a1 : next_slot a1 ≡ a2
-    next_a1 = let low = low_c in omega (arith, low)
-
-    next_a2 : next_slot a2 ≡ a3
-    next_a2 = let low = low_c in omega (arith, low)
-
-    next_a3 : next_slot a3 ≡ a0
-    next_a3 = let low = low_c in omega (arith, low)
-
-    next_b0 : next_slot b0 ≡ b1
-    next_b0 = let low = low_d in omega (arith, low)
-
-    next_b1 : next_slot b1 ≡ b2
-    next_b1 = let low = low_d in omega (arith, low)
-
-    next_b2 : next_slot b2 ≡ b3
-    next_b2 = let low = low_d in omega (arith, low)
-
-    next_b3 : next_slot b3 ≡ b0
-    next_b3 = let low = low_d in omega (arith, low)
-
-    next_c0 : next_slot c0 ≡ c1
-    next_c0 = let low = low_f in omega (arith, low)
-
-    next_c1 : next_slot c1 ≡ c2
-    next_c1 = let low = low_f in omega (arith, low)
-
-    next_c2 : next_slot c2 ≡ c3
-    next_c2 = let low = low_f in omega (arith, low)
-
-    next_c3 : next_slot c3 ≡ c0
-    next_c3 = let low = low_f in omega (arith, low)
-
-    turned_a0 : turned a0 ≡ a1
-    turned_a0 = ap (λ z. sigma (next_slot z)) back_a0 ∙ (ap sigma next_a2 ∙ sigma_a3)
-
-    turned_a1 : turned a1 ≡ c3
-    turned_a1 = ap (λ z. sigma (next_slot z)) back_a1 ∙ (ap sigma next_a3 ∙ sigma_a0)
-
-    turned_a2 : turned a2 ≡ c0
-    turned_a2 = ap (λ z. sigma (next_slot z)) back_a2 ∙ (ap sigma next_c1 ∙ sigma_c2)
-
-    turned_a3 : turned a3 ≡ c2
-    turned_a3 = ap (λ z. sigma (next_slot z)) back_a3 ∙ (ap sigma next_b0 ∙ sigma_b1)
-
-    turned_b0 : turned b0 ≡ b1
-    turned_b0 = ap (λ z. sigma (next_slot z)) back_b0 ∙ (ap sigma next_b2 ∙ sigma_b3)
-
-    turned_b1 : turned b1 ≡ a3
-    turned_b1 = ap (λ z. sigma (next_slot z)) back_b1 ∙ (ap sigma next_b3 ∙ sigma_b0)
-
-    turned_b2 : turned b2 ≡ a0
-    turned_b2 = ap (λ z. sigma (next_slot z)) back_b2 ∙ (ap sigma next_a1 ∙ sigma_a2)
-
-    turned_b3 : turned b3 ≡ a2
-    turned_b3 = ap (λ z. sigma (next_slot z)) back_b3 ∙ (ap sigma next_c0 ∙ sigma_c1)
-
-    turned_c0 : turned c0 ≡ c1
-    turned_c0 = ap (λ z. sigma (next_slot z)) back_c0 ∙ (ap sigma next_c2 ∙ sigma_c3)
-
-    turned_c1 : turned c1 ≡ b3
-    turned_c1 = ap (λ z. sigma (next_slot z)) back_c1 ∙ (ap sigma next_c3 ∙ sigma_c0)
-
-    turned_c2 : turned c2 ≡ b0
-    turned_c2 = ap (λ z. sigma (next_slot z)) back_c2 ∙ (ap sigma next_b1 ∙ sigma_b2)
-
-    turned_c3 : turned c3 ≡ b2
-    turned_c3 = ap (λ z. sigma (next_slot z)) back_c3 ∙ (ap sigma next_a0 ∙ sigma_a1)
+    -- the corners of a crossing follow one another
+    around : (h i : ℕ) → 1 ≤ h → (next_slot (corner_place h i) ≡ corner_place h (i + 1)) × (next_slot (corner_place h (i + 1)) ≡ corner_place h (i + 2)) × (next_slot (corner_place h (i + 2)) ≡ corner_place h (i + 3)) × (next_slot (corner_place h (i + 3)) ≡ corner_place h i)
+    around h i low = (omega (arith, low), omega (arith, low), omega (arith, low), omega (arith, low))
 
     meets : (x y : ℕ) → x < n → y < n → x ≢ y → slice_index ls x ≡ slice_index ls y → other_place ls x ≡ y
     meets x y lx ly ne e = other_is ls x y lx ly ne e (label_twice items pd x lx)
@@ -606,30 +505,30 @@ module _ (items : List Item) (pd : IsPairedDiagram items)
         apart = λ x m. pairing.apart x (in_range n x m);
         twice = λ x m. pairing.twice x (in_range n x m);
       };
-      t_a0 = next_a0;
-      t_a1 = next_a1;
-      t_a2 = next_a2;
-      t_a3 = next_a3;
-      t_b0 = next_b0;
-      t_b1 = next_b1;
-      t_b2 = next_b2;
-      t_b3 = next_b3;
-      t_c0 = next_c0;
-      t_c1 = next_c1;
-      t_c2 = next_c2;
-      t_c3 = next_c3;
-      s_a0 = turned_a0;
-      s_a1 = turned_a1;
-      s_a2 = turned_a2;
-      s_a3 = turned_a3;
-      s_b0 = turned_b0;
-      s_b1 = turned_b1;
-      s_b2 = turned_b2;
-      s_b3 = turned_b3;
-      s_c0 = turned_c0;
-      s_c1 = turned_c1;
-      s_c2 = turned_c2;
-      s_c3 = turned_c3;
+      t_a0 = (around c k low_c).0;
+      t_a1 = (around c k low_c).1;
+      t_a2 = (around c k low_c).2;
+      t_a3 = (around c k low_c).3;
+      t_b0 = (around d l low_d).0;
+      t_b1 = (around d l low_d).1;
+      t_b2 = (around d l low_d).2;
+      t_b3 = (around d l low_d).3;
+      t_c0 = (around f j low_f).0;
+      t_c1 = (around f j low_f).1;
+      t_c2 = (around f j low_f).2;
+      t_c3 = (around f j low_f).3;
+      s_a0 = ap (λ z. sigma (next_slot z)) back_a0 ∙ (ap sigma (around c k low_c).2 ∙ sigma_a3);
+      s_a1 = ap (λ z. sigma (next_slot z)) back_a1 ∙ (ap sigma (around c k low_c).3 ∙ sigma_a0);
+      s_a2 = ap (λ z. sigma (next_slot z)) back_a2 ∙ (ap sigma (around f j low_f).1 ∙ sigma_c2);
+      s_a3 = ap (λ z. sigma (next_slot z)) back_a3 ∙ (ap sigma (around d l low_d).0 ∙ sigma_b1);
+      s_b0 = ap (λ z. sigma (next_slot z)) back_b0 ∙ (ap sigma (around d l low_d).2 ∙ sigma_b3);
+      s_b1 = ap (λ z. sigma (next_slot z)) back_b1 ∙ (ap sigma (around d l low_d).3 ∙ sigma_b0);
+      s_b2 = ap (λ z. sigma (next_slot z)) back_b2 ∙ (ap sigma (around c k low_c).1 ∙ sigma_a2);
+      s_b3 = ap (λ z. sigma (next_slot z)) back_b3 ∙ (ap sigma (around f j low_f).0 ∙ sigma_c1);
+      s_c0 = ap (λ z. sigma (next_slot z)) back_c0 ∙ (ap sigma (around f j low_f).2 ∙ sigma_c3);
+      s_c1 = ap (λ z. sigma (next_slot z)) back_c1 ∙ (ap sigma (around f j low_f).3 ∙ sigma_c0);
+      s_c2 = ap (λ z. sigma (next_slot z)) back_c2 ∙ (ap sigma (around d l low_d).1 ∙ sigma_b2);
+      s_c3 = ap (λ z. sigma (next_slot z)) back_c3 ∙ (ap sigma (around c k low_c).0 ∙ sigma_a1);
       o_a1 = other_a1;
       o_b0 = other_b0;
       o_b1 = other_b1;

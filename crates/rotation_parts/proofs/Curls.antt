@@ -3,19 +3,20 @@ use Rattle.std.proofs.Common.{◌≡◌, ◌⊎◌, ℕ, ◌+◌, ◌==◌, true
 use Rattle.std.specs.Set.{is_member}
 use Rattle.std.proofs.lemmas.Bool.{eq-eqb, eqb-true, cases_Bool, or_cases, or_left, or_right}
 use Rattle.std.proofs.lemmas.Bool.Decides.{nat_tests}
-use Rattle.std.proofs.lemmas.List.Elements.{Contains-append_left, Contains-append_right, Contains-append_cases}
+use Rattle.std.proofs.lemmas.List.Elements.{Contains-append_cases}
 use Rattle.graph_parts.specs.Ends.{AreAmong}
 use Rattle.graph_parts.specs.Parts.{part_count}
-use Rattle.graph_parts.specs.Walks.{Joined, along, back, on}
-use Rattle.graph_parts.proofs.Ends.{EndsAre-append, EndsAre-weaker}
+use Rattle.graph_parts.specs.Walks.{Joined, back, on}
+use Rattle.graph_parts.proofs.Ends.{EndsAre-weaker}
 use Rattle.graph_parts.proofs.Counting.{distinct_count-cons}
 use Rattle.graph_parts.proofs.LeastNames.{part_count-labels}
 use Rattle.graph_parts.proofs.PartLaws.{disjoint_graphs}
 use Rattle.rotation_parts.specs.Laws.{CurlCountsLaw}
 use Rattle.rotation_parts.specs.Drawings.{IsCurl}
 use Rattle.rotation_parts.specs.Rotations.{pair_graph, steps, cycle_count}
+use Rattle.rotation_parts.proofs.PieceGraphs.{gather as into, gather_old, gather_new, pair_among, over, round, by_end, still_over}
 use Rattle.rotation_parts.proofs.Retracts.{retract}
-use Rattle.rotation_parts.proofs.Steps.{step_of, equal_joined, step_along, steps_among, walks}
+use Rattle.rotation_parts.proofs.Steps.{step_of, equal_joined, step_along, steps_among}
 
 single : (z : ℕ) → part_count (z ∷ []) [] ≡ 1
 single z = part_count-labels (z ∷ []) [] tt ∙ distinct_count-cons z []
@@ -30,6 +31,10 @@ one_alone z names es new among =
 module _ (names : List ℕ) (turn other drawn : ℕ → ℕ) (p q a b c d : ℕ) (is : IsCurl names turn other drawn p q a b c d) where
   abbrev more : List ℕ
   more = a ∷ b ∷ c ∷ d ∷ names
+
+  -- the names that the edge got, at its end p
+  abbrev gather : ℕ → ℕ
+  gather = into names p
 
   apart_from : (x z : ℕ) → is_member ◌==◌ names x ≡ true → is_member ◌==◌ names z ≡ false → (x == z) ≡ false
   apart_from x z m n = ⊎_elim (λ t. absurd (let e = ap (is_member ◌==◌ names) (eqb-true x z t) in grind (arith, e, m, n))) (λ f. f) (cases_Bool (x == z))
@@ -54,15 +59,6 @@ module _ (names : List ℕ) (turn other drawn : ℕ → ℕ) (p q a b c d : ℕ)
       ⊎_elim (λ e. subst T (sym e) kb) (λ r.
       ⊎_elim (λ e. subst T (sym e) kc) (λ r.
       ⊎_elim (λ e. subst T (sym e) kd) (λ m4. old x m4) r) r) r) (kinds x m)
-
-  -- p, q, or another one
-  by_end : (T : ℕ → Type 0) → T p → T q → ((x : ℕ) → is_member ◌==◌ names x ≡ true → drawn x ≡ other x → T x) → (x : ℕ) → is_member ◌==◌ names x ≡ true → T x
-  by_end T tp tq rest x m =
-      ⊎_elim (λ t. subst T (sym (eqb-true x p t)) tp)
-      (λ n. ⊎_elim (λ t. subst T (sym (eqb-true x q t)) tq)
-      (λ o. rest x m (is.kept x m (λ e. (let k = eq-eqb x p e in grind (arith, k, n))) (λ e. (let k = eq-eqb x q e in grind (arith, k, o)))))
-      (cases_Bool (x == q)))
-      (cases_Bool (x == p))
 
   old_more : (x : ℕ) → is_member ◌==◌ names x ≡ true → is_member ◌==◌ more x ≡ true
   old_more x m = or_right (x == a) (is_member ◌==◌ (b ∷ c ∷ d ∷ names) x) (or_right (x == b) (is_member ◌==◌ (c ∷ d ∷ names) x) (or_right (x == c) (is_member ◌==◌ (d ∷ names) x) (or_right (x == d) (is_member ◌==◌ names x) m)))
@@ -122,7 +118,7 @@ module _ (names : List ℕ) (turn other drawn : ℕ → ℕ) (p q a b c d : ℕ)
       (equal_joined before (phi p) (send (psi b)) (ap turn is.pq ∙ sym (send_old (turn q) (is.turn_in q is.has_q)) ∙ ap (λ z. send (turn z)) (sym is.db)))))
       (equal_joined before (send c) (send (psi c)) (send_c ∙ sym send_a ∙ ap send (sym is.td ∙ ap turn (sym is.dc))))
       (equal_joined before (send d) (send (psi d)) (ap send (sym is.tc ∙ ap turn (sym is.dd))))
-      (by_end (λ x. Joined before (send x) (send (psi x)))
+      (by_end names other drawn p q is.kept (λ x. Joined before (send x) (send (psi x)))
       (equal_joined before (send p) (send (psi p)) (send_old p is.has_p ∙ sym send_b ∙ ap send (sym is.ta ∙ ap turn (sym is.dp))))
       (equal_joined before (send q) (send (psi q)) (send_old q is.has_q ∙ sym send_c ∙ ap send (sym is.tb ∙ ap turn (sym is.dq))))
       (λ x m e. on (equal_joined before (send x) x (send_old x m)) (on (step_along phi names x m) (equal_joined before (phi x) (send (psi x)) (sym (send_old (phi x) (in_phi x m)) ∙ ap (λ z. send (turn z)) (sym e))))))
@@ -138,7 +134,7 @@ module _ (names : List ℕ) (turn other drawn : ℕ → ℕ) (p q a b c d : ℕ)
   to_a = on (step_along psi more c has_c) (equal_joined after (psi c) a (ap turn is.dc ∙ is.td))
 
   step_up : (x : ℕ) → is_member ◌==◌ names x ≡ true → Joined after x (phi x)
-  step_up = by_end (λ x. Joined after x (phi x))
+  step_up = by_end names other drawn p q is.kept (λ x. Joined after x (phi x))
       (on to_b (on (step_along psi more b has_b) (equal_joined after (psi b) (phi p) (ap turn (is.db ∙ sym is.pq)))))
       (on to_c (on to_a (on (step_along psi more a has_a) (equal_joined after (psi a) (phi q) (ap turn (is.da ∙ sym is.qp))))))
       (λ x m e. on (step_along psi more x (old_more x m)) (equal_joined after (psi x) (phi x) (ap turn e)))
@@ -150,7 +146,7 @@ module _ (names : List ℕ) (turn other drawn : ℕ → ℕ) (p q a b c d : ℕ)
   drawn_more : (x : ℕ) → is_member ◌==◌ more x ≡ true → is_member ◌==◌ more (drawn x) ≡ true
   drawn_more = let M = is_member ◌==◌ more in by_kind (λ x. is_member ◌==◌ more (drawn x) ≡ true)
       (ap M is.da ∙ old_more p is.has_p) (ap M is.db ∙ old_more q is.has_q) (ap M is.dc ∙ has_d) (ap M is.dd ∙ has_c)
-      (by_end (λ x. is_member ◌==◌ more (drawn x) ≡ true) (ap M is.dp ∙ has_a) (ap M is.dq ∙ has_b) (λ x m e. ap M e ∙ old_more (other x) (is.other_in x m)))
+      (by_end names other drawn p q is.kept (λ x. is_member ◌==◌ more (drawn x) ≡ true) (ap M is.dp ∙ has_a) (ap M is.dq ∙ has_b) (λ x m e. ap M e ∙ old_more (other x) (is.other_in x m)))
 
   before_among : AreAmong names before
   before_among = steps_among phi names in_phi
@@ -186,67 +182,49 @@ module _ (names : List ℕ) (turn other drawn : ℕ → ℕ) (p q a b c d : ℕ)
   abbrev drawn_graph : List (ℕ × ℕ)
   drawn_graph = pair_graph more turn drawn
 
-  pair_among : (xs : List ℕ) (f : ℕ → ℕ) → ((x : ℕ) → is_member ◌==◌ xs x ≡ true → is_member ◌==◌ xs (f x) ≡ true) → ((x : ℕ) → is_member ◌==◌ xs x ≡ true → is_member ◌==◌ xs (turn x) ≡ true) → AreAmong xs (pair_graph xs turn f)
-  pair_among xs f h k = EndsAre-append (is_member ◌==◌ xs) (steps f xs) (steps turn xs) (steps_among f xs h) (steps_among turn xs k)
-
-  over : (xs : List ℕ) (f : ℕ → ℕ) (x : ℕ) → is_member ◌==◌ xs x ≡ true → Joined (pair_graph xs turn f) x (f x)
-  over xs f x m = walks (steps f xs) (pair_graph xs turn f) (λ u v e. along (Contains-append_left (steps f xs) (steps turn xs) (u, v) e)) (step_along f xs x m)
-
-  round : (xs : List ℕ) (f : ℕ → ℕ) (x : ℕ) → is_member ◌==◌ xs x ≡ true → Joined (pair_graph xs turn f) x (turn x)
-  round xs f x m = walks (steps turn xs) (pair_graph xs turn f) (λ u v e. along (Contains-append_right (steps f xs) (steps turn xs) (u, v) e)) (step_along turn xs x m)
-
-  abbrev gather : ℕ → ℕ
-  gather x = cond (is_member ◌==◌ names x) x p
-
-  gather_old : (x : ℕ) → is_member ◌==◌ names x ≡ true → gather x ≡ x
-  gather_old x m = ap (λ z. cond z x p) m
-
-  gather_new : (x : ℕ) → is_member ◌==◌ names x ≡ false → gather x ≡ p
-  gather_new x m = ap (λ z. cond z x p) m
-
   p_to_a : Joined drawn_graph p a
-  p_to_a = on (over more drawn p (old_more p is.has_p)) (equal_joined drawn_graph (drawn p) a is.dp)
+  p_to_a = on (over more turn drawn p (old_more p is.has_p)) (equal_joined drawn_graph (drawn p) a is.dp)
 
   a_to_b : Joined drawn_graph a b
-  a_to_b = on (round more drawn a has_a) (equal_joined drawn_graph (turn a) b is.ta)
+  a_to_b = on (round more turn drawn a has_a) (equal_joined drawn_graph (turn a) b is.ta)
 
   b_to_c : Joined drawn_graph b c
-  b_to_c = on (round more drawn b has_b) (equal_joined drawn_graph (turn b) c is.tb)
+  b_to_c = on (round more turn drawn b has_b) (equal_joined drawn_graph (turn b) c is.tb)
 
   c_to_d : Joined drawn_graph c d
-  c_to_d = on (round more drawn c has_c) (equal_joined drawn_graph (turn c) d is.tc)
+  c_to_d = on (round more turn drawn c has_c) (equal_joined drawn_graph (turn c) d is.tc)
 
   b_to_q : Joined drawn_graph b q
-  b_to_q = on (over more drawn b has_b) (equal_joined drawn_graph (drawn b) q is.db)
+  b_to_q = on (over more turn drawn b has_b) (equal_joined drawn_graph (drawn b) q is.db)
 
   gathered : (x y : ℕ) → gather x ≡ p → gather y ≡ p → Joined graph (gather x) (gather y)
   gathered x y e f = equal_joined graph (gather x) (gather y) (e ∙ sym f)
 
   ga : gather a ≡ p
-  ga = gather_new a is.new_a
+  ga = gather_new names p a is.new_a
 
   gb : gather b ≡ p
-  gb = gather_new b is.new_b
+  gb = gather_new names p b is.new_b
 
   gc : gather c ≡ p
-  gc = gather_new c is.new_c
+  gc = gather_new names p c is.new_c
 
   gd : gather d ≡ p
-  gd = gather_new d is.new_d
+  gd = gather_new names p d is.new_d
 
   q_to_p : Joined graph q p
-  q_to_p = on (over names other q is.has_q) (equal_joined graph (other q) p is.qp)
+  q_to_p = on (over names turn other q is.has_q) (equal_joined graph (other q) p is.qp)
 
   over_down : (x : ℕ) → is_member ◌==◌ more x ≡ true → Joined graph (gather x) (gather (drawn x))
   over_down = by_kind (λ x. Joined graph (gather x) (gather (drawn x)))
-      (gathered a (drawn a) ga (ap gather is.da ∙ gather_old p is.has_p))
-      (on (equal_joined graph (gather b) p gb) (on (back q_to_p) (equal_joined graph q (gather (drawn b)) (sym (ap gather is.db ∙ gather_old q is.has_q)))))
+      (gathered a (drawn a) ga (ap gather is.da ∙ gather_old names p p is.has_p))
+      (on (equal_joined graph (gather b) p gb) (on (back q_to_p) (equal_joined graph q (gather (drawn b)) (sym (ap gather is.db ∙ gather_old names p q is.has_q)))))
       (gathered c (drawn c) gc (ap gather is.dc ∙ gd))
       (gathered d (drawn d) gd (ap gather is.dd ∙ gc))
-      (by_end (λ x. Joined graph (gather x) (gather (drawn x)))
-      (gathered p (drawn p) (gather_old p is.has_p) (ap gather is.dp ∙ ga))
-      (on (equal_joined graph (gather q) q (gather_old q is.has_q)) (on q_to_p (equal_joined graph p (gather (drawn q)) (sym (ap gather is.dq ∙ gb)))))
-      (λ x m e. on (equal_joined graph (gather x) x (gather_old x m)) (on (over names other x m) (equal_joined graph (other x) (gather (drawn x)) (sym (gather_old (other x) (is.other_in x m)) ∙ ap gather (sym e))))))
+      (by_end names other drawn p q is.kept (λ x. Joined graph (gather x) (gather (drawn x)))
+      (gathered p (drawn p) (gather_old names p p is.has_p) (ap gather is.dp ∙ ga))
+      (on (equal_joined graph (gather q) q (gather_old names p q is.has_q)) (on q_to_p (equal_joined graph p (gather (drawn q)) (sym (ap gather is.dq ∙ gb)))))
+      (λ x m e. on (equal_joined graph (gather x) x (gather_old names p x m)) (on (over names turn other x m) (equal_joined graph (other x) (gather (drawn x)) (sym (gather_old names p (other x) (is.other_in x m)) ∙ ap gather (sym e))))))
 
   round_down : (x : ℕ) → is_member ◌==◌ more x ≡ true → Joined graph (gather x) (gather (turn x))
   round_down = by_kind (λ x. Joined graph (gather x) (gather (turn x)))
@@ -254,35 +232,29 @@ module _ (names : List ℕ) (turn other drawn : ℕ → ℕ) (p q a b c d : ℕ)
       (gathered b (turn b) gb (ap gather is.tb ∙ gc))
       (gathered c (turn c) gc (ap gather is.tc ∙ gd))
       (gathered d (turn d) gd (ap gather is.td ∙ ga))
-      (λ x m. on (equal_joined graph (gather x) x (gather_old x m)) (on (round names other x m) (equal_joined graph (turn x) (gather (turn x)) (sym (gather_old (turn x) (is.turn_in x m))))))
-
-  over_up : (x : ℕ) → is_member ◌==◌ names x ≡ true → Joined drawn_graph x (other x)
-  over_up = by_end (λ x. Joined drawn_graph x (other x))
-      (on p_to_a (on a_to_b (on b_to_q (equal_joined drawn_graph q (other p) (sym is.pq)))))
-      (on (back b_to_q) (on (back a_to_b) (on (back p_to_a) (equal_joined drawn_graph p (other q) (sym is.qp)))))
-      (λ x m e. on (over more drawn x (old_more x m)) (equal_joined drawn_graph (drawn x) (other x) e))
+      (λ x m. on (equal_joined graph (gather x) x (gather_old names p x m)) (on (round names turn other x m) (equal_joined graph (turn x) (gather (turn x)) (sym (gather_old names p (turn x) (is.turn_in x m))))))
 
   curl_pieces : part_count more drawn_graph ≡ part_count names graph
   curl_pieces =
-      retract more names drawn_graph graph gather (λ u. u) (pair_among more drawn drawn_more turn_more) (pair_among names other is.other_in is.turn_in)
+      retract more names drawn_graph graph gather (λ u. u) (pair_among more turn drawn drawn_more turn_more) (pair_among names turn other is.other_in is.turn_in)
       record {
         onto_others = (let M = is_member ◌==◌ names in by_kind (λ x. is_member ◌==◌ names (gather x) ≡ true)
-            (ap M ga ∙ is.has_p) (ap M gb ∙ is.has_p) (ap M gc ∙ is.has_p) (ap M gd ∙ is.has_p) (λ x m. ap M (gather_old x m) ∙ m));
+            (ap M ga ∙ is.has_p) (ap M gb ∙ is.has_p) (ap M gc ∙ is.has_p) (ap M gd ∙ is.has_p) (λ x m. ap M (gather_old names p x m) ∙ m));
         into_names = old_more;
-        one_of = gather_old;
+        one_of = gather_old names p;
         near = by_kind (λ x. Joined drawn_graph x (gather x))
             (on (back p_to_a) (equal_joined drawn_graph p (gather a) (sym ga)))
             (on (back a_to_b) (on (back p_to_a) (equal_joined drawn_graph p (gather b) (sym gb))))
             (on (back b_to_c) (on (back a_to_b) (on (back p_to_a) (equal_joined drawn_graph p (gather c) (sym gc)))))
             (on (back c_to_d) (on (back b_to_c) (on (back a_to_b) (on (back p_to_a) (equal_joined drawn_graph p (gather d) (sym gd))))))
-            (λ x m. equal_joined drawn_graph x (gather x) (sym (gather_old x m)));
+            (λ x m. equal_joined drawn_graph x (gather x) (sym (gather_old names p x m)));
         down = λ x y e. ⊎_elim
             (λ l. let r = step_of drawn more x y l in on (over_down x r.0) (equal_joined graph (gather (drawn x)) (gather y) (ap gather r.1)))
             (λ l. let r = step_of turn more x y l in on (round_down x r.0) (equal_joined graph (gather (turn x)) (gather y) (ap gather r.1)))
             (Contains-append_cases (steps drawn more) (steps turn more) (x, y) e);
         up = λ x y e. ⊎_elim
-            (λ l. let r = step_of other names x y l in on (over_up x r.0) (equal_joined drawn_graph (other x) y r.1))
-            (λ l. let r = step_of turn names x y l in on (round more drawn x (old_more x r.0)) (equal_joined drawn_graph (turn x) y r.1))
+            (λ l. let r = step_of other names x y l in on (still_over names other drawn p q is.kept more turn old_more (on p_to_a (on a_to_b b_to_q)) is.pq is.qp x r.0) (equal_joined drawn_graph (other x) y r.1))
+            (λ l. let r = step_of turn names x y l in on (round more turn drawn x (old_more x r.0)) (equal_joined drawn_graph (turn x) y r.1))
             (Contains-append_cases (steps other names) (steps turn names) (x, y) e);
       }
 

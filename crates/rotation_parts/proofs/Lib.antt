@@ -3,6 +3,7 @@ pub mod Exchange
 pub mod FlatEdges
 pub mod CutVertices
 pub mod Retracts
+pub mod PieceGraphs
 pub mod Matches
 pub mod Pairings
 pub mod Curls

@@ -11,7 +11,7 @@ use Rattle.rotation_parts.specs.Laws.{LoneCurlLaw}
 use Rattle.rotation_parts.specs.Drawings.{IsLoneCurl}
 use Rattle.rotation_parts.specs.Rotations.{steps, cycle_count, pair_graph}
 use Rattle.rotation_parts.proofs.Curls.{one_alone}
-use Rattle.rotation_parts.proofs.PassedVertices.{pair_among, over, round, piece_walks}
+use Rattle.rotation_parts.proofs.PieceGraphs.{pair_among, over, round, piece_walks}
 use Rattle.rotation_parts.proofs.Retracts.{retract}
 use Rattle.rotation_parts.proofs.Steps.{step_of, equal_joined, step_along, steps_among}
 

@@ -6,7 +6,7 @@ use Rattle.graph_parts.specs.Walks.{on}
 use Rattle.rotation_parts.specs.Laws.{RenamedCountsLaw}
 use Rattle.rotation_parts.specs.Drawings.{IsRenamed}
 use Rattle.rotation_parts.specs.Rotations.{steps, cycle_count, pair_graph}
-use Rattle.rotation_parts.proofs.PassedVertices.{pair_among, over, round, piece_walks}
+use Rattle.rotation_parts.proofs.PieceGraphs.{pair_among, over, round, piece_walks}
 use Rattle.rotation_parts.proofs.Retracts.{retract}
 use Rattle.rotation_parts.proofs.Steps.{step_of, equal_joined, step_along, steps_among}
 

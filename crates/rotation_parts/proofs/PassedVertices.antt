@@ -1,40 +1,20 @@
 -- A vertex of two names is taken away: a circle, or a point of an edge.
-use Rattle.std.proofs.Common.{◌≡◌, ◌≢◌, ◌↔◌, ℕ, ◌+◌, ◌==◌, true, false, cond, List, ◌∷◌, ◌++◌, refl, sym, ap, ◌∙◌, subst, arith, ⊎_elim, Contains}
+use Rattle.std.proofs.Common.{◌≡◌, ◌≢◌, ◌↔◌, ℕ, ◌+◌, ◌==◌, true, false, cond, List, ◌∷◌, ◌++◌, refl, sym, ap, ◌∙◌, subst, arith, ⊎_elim}
 use Rattle.std.specs.Set.{is_member}
 use Rattle.std.proofs.lemmas.Bool.{eq-eqb, eqb-true, cases_Bool, or_cases, or_left, or_right}
 use Rattle.std.proofs.lemmas.Bool.Decides.{nat_tests}
-use Rattle.std.proofs.lemmas.List.Elements.{Contains-append_left, Contains-append_right, Contains-append_cases}
 use Rattle.graph_parts.specs.Ends.{AreAmong}
 use Rattle.graph_parts.specs.Parts.{part_count}
-use Rattle.graph_parts.specs.Walks.{Joined, along, on}
-use Rattle.graph_parts.proofs.Ends.{EndsAre-append, EndsAre-weaker}
+use Rattle.graph_parts.specs.Walks.{Joined, on}
+use Rattle.graph_parts.proofs.Ends.{EndsAre-weaker}
 use Rattle.rotation_parts.specs.Laws.{PassedVertexLaw}
 use Rattle.rotation_parts.specs.Drawings.{IsSubdivision, IsVertexOfTwo, passed}
 use Rattle.rotation_parts.specs.Rotations.{steps, cycle_count, pair_graph, IsPairingOf, IsFlatWith}
 use Rattle.rotation_parts.proofs.Curls.{one_alone}
+use Rattle.rotation_parts.proofs.PieceGraphs.{pair_among, over, round, piece_walks}
 use Rattle.rotation_parts.proofs.Retracts.{retract}
-use Rattle.rotation_parts.proofs.Steps.{same_steps, same_parts, step_of, equal_joined, step_along, step_walks, steps_among, walks}
+use Rattle.rotation_parts.proofs.Steps.{same_steps, same_parts, equal_joined, step_along, step_walks, steps_among}
 use Rattle.rotation_parts.proofs.Subdivisions.{subdivision_counts}
-
--- ---- the graph of pieces
-module _ (names : List ℕ) (turn other : ℕ → ℕ) where
-  pub pair_among : ((x : ℕ) → is_member ◌==◌ names x ≡ true → is_member ◌==◌ names (other x) ≡ true) → ((x : ℕ) → is_member ◌==◌ names x ≡ true → is_member ◌==◌ names (turn x) ≡ true) → AreAmong names (pair_graph names turn other)
-  pair_among h k = EndsAre-append (is_member ◌==◌ names) (steps other names) (steps turn names) (steps_among other names h) (steps_among turn names k)
-
-  pub over : (x : ℕ) → is_member ◌==◌ names x ≡ true → Joined (pair_graph names turn other) x (other x)
-  over x m = walks (steps other names) (pair_graph names turn other) (λ y z e. along (Contains-append_left (steps other names) (steps turn names) (y, z) e)) (step_along other names x m)
-
-  pub round : (x : ℕ) → is_member ◌==◌ names x ≡ true → Joined (pair_graph names turn other) x (turn x)
-  round x m = walks (steps turn names) (pair_graph names turn other) (λ y z e. along (Contains-append_right (steps other names) (steps turn names) (y, z) e)) (step_along turn names x m)
-
-  -- walks of pieces, step by step
-  pub piece_walks : (fs : List (ℕ × ℕ)) (f : ℕ → ℕ) → ((x : ℕ) → is_member ◌==◌ names x ≡ true → Joined fs (f x) (f (other x))) → ((x : ℕ) → is_member ◌==◌ names x ≡ true → Joined fs (f x) (f (turn x))) →
-      (x y : ℕ) → Contains {X = ℕ × ℕ} (pair_graph names turn other) (x, y) → Joined fs (f x) (f y)
-  piece_walks fs f h k x y c =
-      ⊎_elim
-      (λ l. let r = step_of other names x y l in on (h x r.0) (equal_joined fs (f (other x)) (f y) (ap f r.1)))
-      (λ l. let r = step_of turn names x y l in on (k x r.0) (equal_joined fs (f (turn x)) (f y) (ap f r.1)))
-      (Contains-append_cases (steps other names) (steps turn names) (x, y) c)
 
 module _ (names : List ℕ) (turn other : ℕ → ℕ) (u v : ℕ) (is : IsVertexOfTwo names turn other u v) where
   abbrev more : List ℕ

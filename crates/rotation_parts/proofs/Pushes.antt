@@ -5,18 +5,19 @@ use Rattle.std.specs.List.{range_with_len}
 use Rattle.std.specs.Set.{is_member}
 use Rattle.std.proofs.lemmas.Bool.{eq-eqb, eqb-true, cases_Bool, or_cases, or_left, or_right, ltb-true, lt-ltb}
 use Rattle.std.proofs.lemmas.Bool.Decides.{nat_tests}
-use Rattle.std.proofs.lemmas.List.Elements.{Contains-append_left, Contains-append_right, Contains-append_cases}
+use Rattle.std.proofs.lemmas.List.Elements.{Contains-append_cases}
 use Rattle.graph_parts.specs.Ends.{AreAmong}
 use Rattle.graph_parts.specs.Parts.{part_count}
-use Rattle.graph_parts.specs.Walks.{Joined, along, stay, back, on}
+use Rattle.graph_parts.specs.Walks.{Joined, stay, back, on}
 use Rattle.graph_parts.proofs.Ends.{EndsAre-append, EndsAre-weaker}
 use Rattle.graph_parts.proofs.Numbered.{numbered-member as in_range, is_member-numbered as range_has}
 use Rattle.rotation_parts.specs.Rotations.{pair_graph, exchanged, steps, cycle_count, IsPermutation}
 use Rattle.rotation_parts.proofs.Curls.{one_alone}
 use Rattle.rotation_parts.proofs.Exchange.{exchange_splits}
 use Rattle.rotation_parts.proofs.FlatEdges.{exchanged_within}
+use Rattle.rotation_parts.proofs.PieceGraphs.{over, round}
 use Rattle.rotation_parts.proofs.Retracts.{retract}
-use Rattle.rotation_parts.proofs.Steps.{step_of, equal_joined, step_along, steps_among, walks, step_walks}
+use Rattle.rotation_parts.proofs.Steps.{step_of, equal_joined, step_along, steps_among, step_walks}
 use Rattle.rotation_parts.specs.Laws.{PushCountsLaw}
 use Rattle.rotation_parts.specs.Drawings.{IsPush}
 
@@ -261,12 +262,6 @@ module _ (n : ℕ) (turn before other drawn : ℕ → ℕ) (e1 e3 f1 f3 : ℕ) (
   abbrev drawn_graph : List (ℕ × ℕ)
   drawn_graph = pair_graph more turn drawn
 
-  over : (xs : List ℕ) (f : ℕ → ℕ) (x : ℕ) → is_member ◌==◌ xs x ≡ true → Joined (pair_graph xs turn f) x (f x)
-  over xs f x m = walks (steps f xs) (pair_graph xs turn f) (λ u v e. along (Contains-append_left (steps f xs) (steps turn xs) (u, v) e)) (step_along f xs x m)
-
-  round : (xs : List ℕ) (f : ℕ → ℕ) (x : ℕ) → is_member ◌==◌ xs x ≡ true → Joined (pair_graph xs turn f) x (turn x)
-  round xs f x m = walks (steps turn xs) (pair_graph xs turn f) (λ u v e. along (Contains-append_right (steps f xs) (steps turn xs) (u, v) e)) (step_along turn xs x m)
-
   abbrev gather : ℕ → ℕ
   gather x = cond (ltb x n) x e1
 
@@ -277,10 +272,10 @@ module _ (n : ℕ) (turn before other drawn : ℕ → ℕ) (e1 e3 f1 f3 : ℕ) (
   gather_new i = ⊎_elim (λ t. absurd (let l = ltb-true (n + i) n t in omega (arith, l))) (λ f. ap (λ b. cond b (n + i) e1) f) (cases_Bool (ltb (n + i) n))
 
   cross : (x y : ℕ) → x < n + 8 → drawn x ≡ y → Joined drawn_graph x y
-  cross x y l e = on (over more drawn x (range_has (n + 8) x l)) (equal_joined drawn_graph (drawn x) y e)
+  cross x y l e = on (over more turn drawn x (range_has (n + 8) x l)) (equal_joined drawn_graph (drawn x) y e)
 
   wind : (x y : ℕ) → x < n + 8 → turn x ≡ y → Joined drawn_graph x y
-  wind x y l e = on (round more drawn x (range_has (n + 8) x l)) (equal_joined drawn_graph (turn x) y e)
+  wind x y l e = on (round more turn drawn x (range_has (n + 8) x l)) (equal_joined drawn_graph (turn x) y e)
 
   -- each new place is joined to the first of them
   n1 : Joined drawn_graph (n + 1) (n + 0)
@@ -321,7 +316,7 @@ module _ (n : ℕ) (turn before other drawn : ℕ → ℕ) (e1 e3 f1 f3 : ℕ) (
 
   module _ (met : Joined graph e1 f1) where
     old_over : (x : ℕ) → x < n → Joined graph x (other x)
-    old_over x l = over names other x (range_has n x l)
+    old_over x l = over names turn other x (range_has n x l)
 
     e3_met : Joined graph e3 e1
     e3_met = on (old_over e3 is.le3) (equal_joined graph (other e3) e1 is.ee_back)
@@ -368,7 +363,7 @@ module _ (n : ℕ) (turn before other drawn : ℕ → ℕ) (e1 e3 f1 f3 : ℕ) (
     round_down : (x : ℕ) → x < n + 8 → Joined graph (gather x) (gather (turn x))
     round_down = by_kind (λ x. Joined graph (gather x) (gather (turn x)))
         (turned 0 1 is.t0) (turned 1 2 is.t1) (turned 2 3 is.t2) (turned 3 0 is.t3) (turned 4 5 is.t4) (turned 5 6 is.t5) (turned 6 7 is.t6) (turned 7 4 is.t7)
-        (λ x l. on (equal_joined graph (gather x) x (gather_old x l)) (on (round names other x (range_has n x l)) (equal_joined graph (turn x) (gather (turn x)) (sym (gather_old (turn x) (is.turn_in x l))))))
+        (λ x l. on (equal_joined graph (gather x) x (gather_old x l)) (on (round names turn other x (range_has n x l)) (equal_joined graph (turn x) (gather (turn x)) (sym (gather_old (turn x) (is.turn_in x l))))))
 
     over_up : (x : ℕ) → x < n → Joined drawn_graph x (other x)
     over_up = by_end (λ x. Joined drawn_graph x (other x))
@@ -407,5 +402,5 @@ push_counts n turn back_phi other drawn e1 e3 f1 f3 is perm j =
     let met : Joined graph_of e1 f1 = step_walks (λ x. turn (other x)) (range_with_len 0 n) graph_of
     (λ x m.
     let l = in_range n x m in
-    on (over n turn back_phi other drawn e1 e3 f1 f3 is (range_with_len 0 n) other x m) (round n turn back_phi other drawn e1 e3 f1 f3 is (range_with_len 0 n) other (other x) (range_has n (other x) (is.other_in x l)))) j in
+    on (over (range_with_len 0 n) turn other x m) (round (range_with_len 0 n) turn other (other x) (range_has n (other x) (is.other_in x l)))) j in
     (push_faces n turn back_phi other drawn e1 e3 f1 f3 is back_phi perm j, push_pieces n turn back_phi other drawn e1 e3 f1 f3 is met)

@@ -10,7 +10,7 @@ use Rattle.rotation_parts.specs.Laws.{SlideCountsLaw}
 use Rattle.rotation_parts.specs.Drawings.{IsSlide}
 use Rattle.rotation_parts.specs.Rotations.{steps, cycle_count, pair_graph}
 use Rattle.rotation_parts.proofs.Matches.{matched_graphs}
-use Rattle.rotation_parts.proofs.PassedVertices.{pair_among, over, round, piece_walks}
+use Rattle.rotation_parts.proofs.PieceGraphs.{pair_among, over, round, piece_walks}
 use Rattle.rotation_parts.proofs.Steps.{same_parts, step_of, equal_joined, step_along, steps_among, walks}
 
 module _ (names : List ℕ) (turn turned other : ℕ → ℕ) (a0 a1 a2 a3 b0 b1 b2 b3 c0 c1 c2 c3 : ℕ) (is : IsSlide names turn turned other a0 a1 a2 a3 b0 b1 b2 b3 c0 c1 c2 c3) where
@@ -259,121 +259,82 @@ module _ (names : List ℕ) (turn turned other : ℕ → ℕ) (a0 a1 a2 a3 b0 b1
   abbrev after_graph : List (ℕ × ℕ)
   after_graph = pair_graph names turned other
 
-  before_over : (x y : ℕ) → is_member ◌==◌ names x ≡ true → other x ≡ y → Joined graph x y
-  before_over x y m e = on (over names turn other x m) (equal_joined graph (other x) y e)
+  -- a walk of three names of a row, back to where its first name is joined
+  module _ (step : ℕ → ℕ) where
+    paired_to : (x y : ℕ) → is_member ◌==◌ names x ≡ true → other x ≡ y → Joined (pair_graph names step other) y a0 → Joined (pair_graph names step other) x a0
+    paired_to x y m e j = on (over names step other x m) (on (equal_joined (pair_graph names step other) (other x) y e) j)
 
-  before_round : (x y : ℕ) → is_member ◌==◌ names x ≡ true → turn x ≡ y → Joined graph x y
-  before_round x y m e = on (round names turn other x m) (equal_joined graph (turn x) y e)
+    follows : (x y : ℕ) → is_member ◌==◌ names x ≡ true → step x ≡ y → Joined (pair_graph names step other) x a0 → Joined (pair_graph names step other) y a0
+    follows x y m e j = on (back (on (round names step other x m) (equal_joined (pair_graph names step other) (step x) y e))) j
 
-  before_a0 : Joined graph a0 a0
-  before_a0 = stay
+    row : (r0 r1 r2 r3 : ℕ) → is_member ◌==◌ names r0 ≡ true → is_member ◌==◌ names r1 ≡ true → is_member ◌==◌ names r2 ≡ true → step r0 ≡ r1 → step r1 ≡ r2 → step r2 ≡ r3 →
+        Joined (pair_graph names step other) r0 a0 → Joined (pair_graph names step other) r1 a0 × Joined (pair_graph names step other) r2 a0 × Joined (pair_graph names step other) r3 a0
+    row r0 r1 r2 r3 m0 m1 m2 e0 e1 e2 j =
+        let j1 = follows r0 r1 m0 e0 j in
+        let j2 = follows r1 r2 m1 e1 j1 in
+        (j1, j2, follows r2 r3 m2 e2 j2)
 
-  before_a1 : Joined graph a1 a0
-  before_a1 = on (back (before_round a0 a1 is.has_a0 is.t_a0)) before_a0
-
-  before_a2 : Joined graph a2 a0
-  before_a2 = on (back (before_round a1 a2 is.has_a1 is.t_a1)) before_a1
-
-  before_a3 : Joined graph a3 a0
-  before_a3 = on (back (before_round a2 a3 is.has_a2 is.t_a2)) before_a2
+  before_a : Joined graph a1 a0 × Joined graph a2 a0 × Joined graph a3 a0
+  before_a = row turn a0 a1 a2 a3 is.has_a0 is.has_a1 is.has_a2 is.t_a0 is.t_a1 is.t_a2 stay
 
   before_b0 : Joined graph b0 a0
-  before_b0 = on (before_over b0 a1 is.has_b0 is.o_b0) before_a1
+  before_b0 = paired_to turn b0 a1 is.has_b0 is.o_b0 before_a.0
 
-  before_b1 : Joined graph b1 a0
-  before_b1 = on (back (before_round b0 b1 is.has_b0 is.t_b0)) before_b0
-
-  before_b2 : Joined graph b2 a0
-  before_b2 = on (back (before_round b1 b2 is.has_b1 is.t_b1)) before_b1
-
-  before_b3 : Joined graph b3 a0
-  before_b3 = on (back (before_round b2 b3 is.has_b2 is.t_b2)) before_b2
+  before_b : Joined graph b1 a0 × Joined graph b2 a0 × Joined graph b3 a0
+  before_b = row turn b0 b1 b2 b3 is.has_b0 is.has_b1 is.has_b2 is.t_b0 is.t_b1 is.t_b2 before_b0
 
   before_c0 : Joined graph c0 a0
-  before_c0 = on (before_over c0 b1 is.has_c0 is.o_c0) before_b1
+  before_c0 = paired_to turn c0 b1 is.has_c0 is.o_c0 before_b.0
 
-  before_c1 : Joined graph c1 a0
-  before_c1 = on (back (before_round c0 c1 is.has_c0 is.t_c0)) before_c0
+  before_c : Joined graph c1 a0 × Joined graph c2 a0 × Joined graph c3 a0
+  before_c = row turn c0 c1 c2 c3 is.has_c0 is.has_c1 is.has_c2 is.t_c0 is.t_c1 is.t_c2 before_c0
 
-  before_c2 : Joined graph c2 a0
-  before_c2 = on (back (before_round c1 c2 is.has_c1 is.t_c1)) before_c1
-
-  before_c3 : Joined graph c3 a0
-  before_c3 = on (back (before_round c2 c3 is.has_c2 is.t_c2)) before_c2
-
-  after_over : (x y : ℕ) → is_member ◌==◌ names x ≡ true → other x ≡ y → Joined after_graph x y
-  after_over x y m e = on (over names turned other x m) (equal_joined after_graph (other x) y e)
-
-  after_round : (x y : ℕ) → is_member ◌==◌ names x ≡ true → turned x ≡ y → Joined after_graph x y
-  after_round x y m e = on (round names turned other x m) (equal_joined after_graph (turned x) y e)
-
-  after_a0 : Joined after_graph a0 a0
-  after_a0 = stay
-
-  after_a1 : Joined after_graph a1 a0
-  after_a1 = on (back (after_round a0 a1 is.has_a0 is.s_a0)) after_a0
-
-  after_c3 : Joined after_graph c3 a0
-  after_c3 = on (back (after_round a1 c3 is.has_a1 is.s_a1)) after_a1
-
-  after_b2 : Joined after_graph b2 a0
-  after_b2 = on (back (after_round c3 b2 is.has_c3 is.s_c3)) after_c3
+  after_a : Joined after_graph a1 a0 × Joined after_graph c3 a0 × Joined after_graph b2 a0
+  after_a = row turned a0 a1 c3 b2 is.has_a0 is.has_a1 is.has_c3 is.s_a0 is.s_a1 is.s_c3 stay
 
   after_b0 : Joined after_graph b0 a0
-  after_b0 = on (after_over b0 a1 is.has_b0 is.o_b0) after_a1
+  after_b0 = paired_to turned b0 a1 is.has_b0 is.o_b0 after_a.0
 
-  after_b1 : Joined after_graph b1 a0
-  after_b1 = on (back (after_round b0 b1 is.has_b0 is.s_b0)) after_b0
-
-  after_a3 : Joined after_graph a3 a0
-  after_a3 = on (back (after_round b1 a3 is.has_b1 is.s_b1)) after_b1
-
-  after_c2 : Joined after_graph c2 a0
-  after_c2 = on (back (after_round a3 c2 is.has_a3 is.s_a3)) after_a3
+  after_b : Joined after_graph b1 a0 × Joined after_graph a3 a0 × Joined after_graph c2 a0
+  after_b = row turned b0 b1 a3 c2 is.has_b0 is.has_b1 is.has_a3 is.s_b0 is.s_b1 is.s_a3 after_b0
 
   after_c0 : Joined after_graph c0 a0
-  after_c0 = on (after_over c0 b1 is.has_c0 is.o_c0) after_b1
+  after_c0 = paired_to turned c0 b1 is.has_c0 is.o_c0 after_b.0
 
-  after_c1 : Joined after_graph c1 a0
-  after_c1 = on (back (after_round c0 c1 is.has_c0 is.s_c0)) after_c0
-
-  after_b3 : Joined after_graph b3 a0
-  after_b3 = on (back (after_round c1 b3 is.has_c1 is.s_c1)) after_c1
-
-  after_a2 : Joined after_graph a2 a0
-  after_a2 = on (back (after_round b3 a2 is.has_b3 is.s_b3)) after_b3
+  after_c : Joined after_graph c1 a0 × Joined after_graph b3 a0 × Joined after_graph a2 a0
+  after_c = row turned c0 c1 b3 a2 is.has_c0 is.has_c1 is.has_b3 is.s_c0 is.s_c1 is.s_b3 after_c0
 
   turn_after : (x : ℕ) → is_member ◌==◌ names x ≡ true → Joined after_graph x (turn x)
   turn_after = by_twelve (λ z. Joined after_graph z (turn z))
-      (on after_a0 (on (back after_a1) (equal_joined after_graph a1 (turn a0) (sym is.t_a0))))
-      (on after_a1 (on (back after_a2) (equal_joined after_graph a2 (turn a1) (sym is.t_a1))))
-      (on after_a2 (on (back after_a3) (equal_joined after_graph a3 (turn a2) (sym is.t_a2))))
-      (on after_a3 (on (back after_a0) (equal_joined after_graph a0 (turn a3) (sym is.t_a3))))
-      (on after_b0 (on (back after_b1) (equal_joined after_graph b1 (turn b0) (sym is.t_b0))))
-      (on after_b1 (on (back after_b2) (equal_joined after_graph b2 (turn b1) (sym is.t_b1))))
-      (on after_b2 (on (back after_b3) (equal_joined after_graph b3 (turn b2) (sym is.t_b2))))
-      (on after_b3 (on (back after_b0) (equal_joined after_graph b0 (turn b3) (sym is.t_b3))))
-      (on after_c0 (on (back after_c1) (equal_joined after_graph c1 (turn c0) (sym is.t_c0))))
-      (on after_c1 (on (back after_c2) (equal_joined after_graph c2 (turn c1) (sym is.t_c1))))
-      (on after_c2 (on (back after_c3) (equal_joined after_graph c3 (turn c2) (sym is.t_c2))))
-      (on after_c3 (on (back after_c0) (equal_joined after_graph c0 (turn c3) (sym is.t_c3))))
-      (λ z m n_a0 n_a1 n_a2 n_a3 n_b0 n_b1 n_b2 n_b3 n_c0 n_c1 n_c2 n_c3. (let k = is.kept z m n_a0 n_a1 n_a2 n_a3 n_b0 n_b1 n_b2 n_b3 n_c0 n_c1 n_c2 n_c3 in after_round z (turn z) m k.0))
+      (on stay (on (back after_a.0) (equal_joined after_graph a1 (turn a0) (sym is.t_a0))))
+      (on after_a.0 (on (back after_c.2) (equal_joined after_graph a2 (turn a1) (sym is.t_a1))))
+      (on after_c.2 (on (back after_b.1) (equal_joined after_graph a3 (turn a2) (sym is.t_a2))))
+      (on after_b.1 (on (back stay) (equal_joined after_graph a0 (turn a3) (sym is.t_a3))))
+      (on after_b0 (on (back after_b.0) (equal_joined after_graph b1 (turn b0) (sym is.t_b0))))
+      (on after_b.0 (on (back after_a.2) (equal_joined after_graph b2 (turn b1) (sym is.t_b1))))
+      (on after_a.2 (on (back after_c.1) (equal_joined after_graph b3 (turn b2) (sym is.t_b2))))
+      (on after_c.1 (on (back after_b0) (equal_joined after_graph b0 (turn b3) (sym is.t_b3))))
+      (on after_c0 (on (back after_c.0) (equal_joined after_graph c1 (turn c0) (sym is.t_c0))))
+      (on after_c.0 (on (back after_b.2) (equal_joined after_graph c2 (turn c1) (sym is.t_c1))))
+      (on after_b.2 (on (back after_a.1) (equal_joined after_graph c3 (turn c2) (sym is.t_c2))))
+      (on after_a.1 (on (back after_c0) (equal_joined after_graph c0 (turn c3) (sym is.t_c3))))
+      (λ z m n_a0 n_a1 n_a2 n_a3 n_b0 n_b1 n_b2 n_b3 n_c0 n_c1 n_c2 n_c3. (let k = is.kept z m n_a0 n_a1 n_a2 n_a3 n_b0 n_b1 n_b2 n_b3 n_c0 n_c1 n_c2 n_c3 in on (round names turned other z m) (equal_joined after_graph (turned z) (turn z) k.0)))
 
   turned_before : (x : ℕ) → is_member ◌==◌ names x ≡ true → Joined graph x (turned x)
   turned_before = by_twelve (λ z. Joined graph z (turned z))
-      (on before_a0 (on (back before_a1) (equal_joined graph a1 (turned a0) (sym is.s_a0))))
-      (on before_a1 (on (back before_c3) (equal_joined graph c3 (turned a1) (sym is.s_a1))))
-      (on before_a2 (on (back before_c0) (equal_joined graph c0 (turned a2) (sym is.s_a2))))
-      (on before_a3 (on (back before_c2) (equal_joined graph c2 (turned a3) (sym is.s_a3))))
-      (on before_b0 (on (back before_b1) (equal_joined graph b1 (turned b0) (sym is.s_b0))))
-      (on before_b1 (on (back before_a3) (equal_joined graph a3 (turned b1) (sym is.s_b1))))
-      (on before_b2 (on (back before_a0) (equal_joined graph a0 (turned b2) (sym is.s_b2))))
-      (on before_b3 (on (back before_a2) (equal_joined graph a2 (turned b3) (sym is.s_b3))))
-      (on before_c0 (on (back before_c1) (equal_joined graph c1 (turned c0) (sym is.s_c0))))
-      (on before_c1 (on (back before_b3) (equal_joined graph b3 (turned c1) (sym is.s_c1))))
-      (on before_c2 (on (back before_b0) (equal_joined graph b0 (turned c2) (sym is.s_c2))))
-      (on before_c3 (on (back before_b2) (equal_joined graph b2 (turned c3) (sym is.s_c3))))
-      (λ z m n_a0 n_a1 n_a2 n_a3 n_b0 n_b1 n_b2 n_b3 n_c0 n_c1 n_c2 n_c3. (let k = is.kept z m n_a0 n_a1 n_a2 n_a3 n_b0 n_b1 n_b2 n_b3 n_c0 n_c1 n_c2 n_c3 in before_round z (turned z) m (sym k.0)))
+      (on stay (on (back before_a.0) (equal_joined graph a1 (turned a0) (sym is.s_a0))))
+      (on before_a.0 (on (back before_c.2) (equal_joined graph c3 (turned a1) (sym is.s_a1))))
+      (on before_a.1 (on (back before_c0) (equal_joined graph c0 (turned a2) (sym is.s_a2))))
+      (on before_a.2 (on (back before_c.1) (equal_joined graph c2 (turned a3) (sym is.s_a3))))
+      (on before_b0 (on (back before_b.0) (equal_joined graph b1 (turned b0) (sym is.s_b0))))
+      (on before_b.0 (on (back before_a.2) (equal_joined graph a3 (turned b1) (sym is.s_b1))))
+      (on before_b.1 (on (back stay) (equal_joined graph a0 (turned b2) (sym is.s_b2))))
+      (on before_b.2 (on (back before_a.1) (equal_joined graph a2 (turned b3) (sym is.s_b3))))
+      (on before_c0 (on (back before_c.0) (equal_joined graph c1 (turned c0) (sym is.s_c0))))
+      (on before_c.0 (on (back before_b.2) (equal_joined graph b3 (turned c1) (sym is.s_c1))))
+      (on before_c.1 (on (back before_b0) (equal_joined graph b0 (turned c2) (sym is.s_c2))))
+      (on before_c.2 (on (back before_b.1) (equal_joined graph b2 (turned c3) (sym is.s_c3))))
+      (λ z m n_a0 n_a1 n_a2 n_a3 n_b0 n_b1 n_b2 n_b3 n_c0 n_c1 n_c2 n_c3. (let k = is.kept z m n_a0 n_a1 n_a2 n_a3 n_b0 n_b1 n_b2 n_b3 n_c0 n_c1 n_c2 n_c3 in on (round names turn other z m) (equal_joined graph (turn z) (turned z) (sym k.0))))
 
   slid_pieces : part_count names after_graph ≡ part_count names graph
   slid_pieces =

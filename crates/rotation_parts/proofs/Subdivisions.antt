@@ -3,20 +3,24 @@ use Rattle.std.proofs.Common.{◌≡◌, ℕ, ◌==◌, true, false, cond, List,
 use Rattle.std.specs.Set.{is_member}
 use Rattle.std.proofs.lemmas.Bool.{eq-eqb, eqb-true, cases_Bool, or_cases, or_left, or_right}
 use Rattle.std.proofs.lemmas.Bool.Decides.{nat_tests}
-use Rattle.std.proofs.lemmas.List.Elements.{Contains-append_left, Contains-append_right, Contains-append_cases}
+use Rattle.std.proofs.lemmas.List.Elements.{Contains-append_cases}
 use Rattle.graph_parts.specs.Ends.{AreAmong}
 use Rattle.graph_parts.specs.Parts.{part_count}
-use Rattle.graph_parts.specs.Walks.{Joined, along, back, on}
-use Rattle.graph_parts.proofs.Ends.{EndsAre-append}
+use Rattle.graph_parts.specs.Walks.{Joined, back, on}
 use Rattle.rotation_parts.specs.Laws.{SubdivisionCountsLaw}
 use Rattle.rotation_parts.specs.Drawings.{IsSubdivision}
 use Rattle.rotation_parts.specs.Rotations.{pair_graph, steps, cycle_count}
+use Rattle.rotation_parts.proofs.PieceGraphs.{gather as into, gather_old, gather_new, pair_among, over, round, by_end, still_over}
 use Rattle.rotation_parts.proofs.Retracts.{retract}
-use Rattle.rotation_parts.proofs.Steps.{step_of, equal_joined, step_along, steps_among, walks}
+use Rattle.rotation_parts.proofs.Steps.{step_of, equal_joined, step_along, steps_among}
 
 module _ (names : List ℕ) (turn other drawn : ℕ → ℕ) (p q u v : ℕ) (is : IsSubdivision names turn other drawn p q u v) where
   abbrev more : List ℕ
   more = u ∷ v ∷ names
+
+  -- the names that the edge got, at its end p
+  abbrev gather : ℕ → ℕ
+  gather = into names p
 
   apart_from : (x z : ℕ) → is_member ◌==◌ names x ≡ true → is_member ◌==◌ names z ≡ false → (x == z) ≡ false
   apart_from x z m n = ⊎_elim (λ t. absurd (let e = ap (is_member ◌==◌ names) (eqb-true x z t) in grind (arith, e, m, n))) (λ f. f) (cases_Bool (x == z))
@@ -27,15 +31,6 @@ module _ (names : List ℕ) (turn other drawn : ℕ → ℕ) (p q u v : ℕ) (is
       ⊎_elim (λ t. subst T (sym (eqb-true x v t)) kv) (λ m2. old x m2)
       (or_cases (x == v) (is_member ◌==◌ names x) m1))
       (or_cases (x == u) (is_member ◌==◌ (v ∷ names) x) m)
-
-  -- p, q, or another one
-  by_end : (T : ℕ → Type 0) → T p → T q → ((x : ℕ) → is_member ◌==◌ names x ≡ true → drawn x ≡ other x → T x) → (x : ℕ) → is_member ◌==◌ names x ≡ true → T x
-  by_end T tp tq rest x m =
-      ⊎_elim (λ t. subst T (sym (eqb-true x p t)) tp)
-      (λ n. ⊎_elim (λ t. subst T (sym (eqb-true x q t)) tq)
-      (λ o. rest x m (is.kept x m (λ e. (let k = eq-eqb x p e in grind (arith, k, n))) (λ e. (let k = eq-eqb x q e in grind (arith, k, o)))))
-      (cases_Bool (x == q)))
-      (cases_Bool (x == p))
 
   old_more : (x : ℕ) → is_member ◌==◌ names x ≡ true → is_member ◌==◌ more x ≡ true
   old_more x m = or_right (x == u) (is_member ◌==◌ (v ∷ names) x) (or_right (x == v) (is_member ◌==◌ names x) m)
@@ -80,7 +75,7 @@ module _ (names : List ℕ) (turn other drawn : ℕ → ℕ) (p q u v : ℕ) (is
       (equal_joined before (phi q) (send (psi u)) (ap turn is.qp ∙ sym (send_old (turn p) (is.turn_in p is.has_p)) ∙ ap (λ z. send (turn z)) (sym is.du)))))
       (on (equal_joined before (send v) p send_v) (on (step_along phi names p is.has_p)
       (equal_joined before (phi p) (send (psi v)) (ap turn is.pq ∙ sym (send_old (turn q) (is.turn_in q is.has_q)) ∙ ap (λ z. send (turn z)) (sym is.dv)))))
-      (by_end (λ x. Joined before (send x) (send (psi x)))
+      (by_end names other drawn p q is.kept (λ x. Joined before (send x) (send (psi x)))
       (equal_joined before (send p) (send (psi p)) (send_old p is.has_p ∙ sym send_v ∙ ap send (sym is.tu ∙ ap turn (sym is.dp))))
       (equal_joined before (send q) (send (psi q)) (send_old q is.has_q ∙ sym send_u ∙ ap send (sym is.tv ∙ ap turn (sym is.dq))))
       (λ x m e. on (equal_joined before (send x) x (send_old x m)) (on (step_along phi names x m) (equal_joined before (phi x) (send (psi x)) (sym (send_old (phi x) (in_phi x m)) ∙ ap (λ z. send (turn z)) (sym e))))))
@@ -92,7 +87,7 @@ module _ (names : List ℕ) (turn other drawn : ℕ → ℕ) (p q u v : ℕ) (is
   to_u = on (step_along psi more q (old_more q is.has_q)) (equal_joined after (psi q) u (ap turn is.dq ∙ is.tv))
 
   step_up : (x : ℕ) → is_member ◌==◌ names x ≡ true → Joined after x (phi x)
-  step_up = by_end (λ x. Joined after x (phi x))
+  step_up = by_end names other drawn p q is.kept (λ x. Joined after x (phi x))
       (on to_v (on (step_along psi more v has_v) (equal_joined after (psi v) (phi p) (ap turn (is.dv ∙ sym is.pq)))))
       (on to_u (on (step_along psi more u has_u) (equal_joined after (psi u) (phi q) (ap turn (is.du ∙ sym is.qp)))))
       (λ x m e. on (step_along psi more x (old_more x m)) (equal_joined after (psi x) (phi x) (ap turn e)))
@@ -104,7 +99,7 @@ module _ (names : List ℕ) (turn other drawn : ℕ → ℕ) (p q u v : ℕ) (is
   drawn_more : (x : ℕ) → is_member ◌==◌ more x ≡ true → is_member ◌==◌ more (drawn x) ≡ true
   drawn_more = let M = is_member ◌==◌ more in by_kind (λ x. is_member ◌==◌ more (drawn x) ≡ true)
       (ap M is.du ∙ old_more p is.has_p) (ap M is.dv ∙ old_more q is.has_q)
-      (by_end (λ x. is_member ◌==◌ more (drawn x) ≡ true) (ap M is.dp ∙ has_u) (ap M is.dq ∙ has_v) (λ x m e. ap M e ∙ old_more (other x) (is.other_in x m)))
+      (by_end names other drawn p q is.kept (λ x. is_member ◌==◌ more (drawn x) ≡ true) (ap M is.dp ∙ has_u) (ap M is.dq ∙ has_v) (λ x m e. ap M e ∙ old_more (other x) (is.other_in x m)))
 
   before_among : AreAmong names before
   before_among = steps_among phi names in_phi
@@ -131,84 +126,60 @@ module _ (names : List ℕ) (turn other drawn : ℕ → ℕ) (p q u v : ℕ) (is
   abbrev drawn_graph : List (ℕ × ℕ)
   drawn_graph = pair_graph more turn drawn
 
-  pair_among : (xs : List ℕ) (f : ℕ → ℕ) → ((x : ℕ) → is_member ◌==◌ xs x ≡ true → is_member ◌==◌ xs (f x) ≡ true) → ((x : ℕ) → is_member ◌==◌ xs x ≡ true → is_member ◌==◌ xs (turn x) ≡ true) → AreAmong xs (pair_graph xs turn f)
-  pair_among xs f h k = EndsAre-append (is_member ◌==◌ xs) (steps f xs) (steps turn xs) (steps_among f xs h) (steps_among turn xs k)
-
-  over : (xs : List ℕ) (f : ℕ → ℕ) (x : ℕ) → is_member ◌==◌ xs x ≡ true → Joined (pair_graph xs turn f) x (f x)
-  over xs f x m = walks (steps f xs) (pair_graph xs turn f) (λ y z e. along (Contains-append_left (steps f xs) (steps turn xs) (y, z) e)) (step_along f xs x m)
-
-  round : (xs : List ℕ) (f : ℕ → ℕ) (x : ℕ) → is_member ◌==◌ xs x ≡ true → Joined (pair_graph xs turn f) x (turn x)
-  round xs f x m = walks (steps turn xs) (pair_graph xs turn f) (λ y z e. along (Contains-append_right (steps f xs) (steps turn xs) (y, z) e)) (step_along turn xs x m)
-
-  abbrev gather : ℕ → ℕ
-  gather x = cond (is_member ◌==◌ names x) x p
-
-  gather_old : (x : ℕ) → is_member ◌==◌ names x ≡ true → gather x ≡ x
-  gather_old x m = ap (λ z. cond z x p) m
-
-  gather_new : (x : ℕ) → is_member ◌==◌ names x ≡ false → gather x ≡ p
-  gather_new x m = ap (λ z. cond z x p) m
-
   p_to_u : Joined drawn_graph p u
-  p_to_u = on (over more drawn p (old_more p is.has_p)) (equal_joined drawn_graph (drawn p) u is.dp)
+  p_to_u = on (over more turn drawn p (old_more p is.has_p)) (equal_joined drawn_graph (drawn p) u is.dp)
 
   u_to_v : Joined drawn_graph u v
-  u_to_v = on (round more drawn u has_u) (equal_joined drawn_graph (turn u) v is.tu)
+  u_to_v = on (round more turn drawn u has_u) (equal_joined drawn_graph (turn u) v is.tu)
 
   v_to_q : Joined drawn_graph v q
-  v_to_q = on (over more drawn v has_v) (equal_joined drawn_graph (drawn v) q is.dv)
+  v_to_q = on (over more turn drawn v has_v) (equal_joined drawn_graph (drawn v) q is.dv)
 
   gathered : (x y : ℕ) → gather x ≡ p → gather y ≡ p → Joined graph (gather x) (gather y)
   gathered x y e f = equal_joined graph (gather x) (gather y) (e ∙ sym f)
 
   gu : gather u ≡ p
-  gu = gather_new u is.new_u
+  gu = gather_new names p u is.new_u
 
   gv : gather v ≡ p
-  gv = gather_new v is.new_v
+  gv = gather_new names p v is.new_v
 
   q_to_p : Joined graph q p
-  q_to_p = on (over names other q is.has_q) (equal_joined graph (other q) p is.qp)
+  q_to_p = on (over names turn other q is.has_q) (equal_joined graph (other q) p is.qp)
 
   over_down : (x : ℕ) → is_member ◌==◌ more x ≡ true → Joined graph (gather x) (gather (drawn x))
   over_down = by_kind (λ x. Joined graph (gather x) (gather (drawn x)))
-      (gathered u (drawn u) gu (ap gather is.du ∙ gather_old p is.has_p))
-      (on (equal_joined graph (gather v) p gv) (on (back q_to_p) (equal_joined graph q (gather (drawn v)) (sym (ap gather is.dv ∙ gather_old q is.has_q)))))
-      (by_end (λ x. Joined graph (gather x) (gather (drawn x)))
-      (gathered p (drawn p) (gather_old p is.has_p) (ap gather is.dp ∙ gu))
-      (on (equal_joined graph (gather q) q (gather_old q is.has_q)) (on q_to_p (equal_joined graph p (gather (drawn q)) (sym (ap gather is.dq ∙ gv)))))
-      (λ x m e. on (equal_joined graph (gather x) x (gather_old x m)) (on (over names other x m) (equal_joined graph (other x) (gather (drawn x)) (sym (gather_old (other x) (is.other_in x m)) ∙ ap gather (sym e))))))
+      (gathered u (drawn u) gu (ap gather is.du ∙ gather_old names p p is.has_p))
+      (on (equal_joined graph (gather v) p gv) (on (back q_to_p) (equal_joined graph q (gather (drawn v)) (sym (ap gather is.dv ∙ gather_old names p q is.has_q)))))
+      (by_end names other drawn p q is.kept (λ x. Joined graph (gather x) (gather (drawn x)))
+      (gathered p (drawn p) (gather_old names p p is.has_p) (ap gather is.dp ∙ gu))
+      (on (equal_joined graph (gather q) q (gather_old names p q is.has_q)) (on q_to_p (equal_joined graph p (gather (drawn q)) (sym (ap gather is.dq ∙ gv)))))
+      (λ x m e. on (equal_joined graph (gather x) x (gather_old names p x m)) (on (over names turn other x m) (equal_joined graph (other x) (gather (drawn x)) (sym (gather_old names p (other x) (is.other_in x m)) ∙ ap gather (sym e))))))
 
   round_down : (x : ℕ) → is_member ◌==◌ more x ≡ true → Joined graph (gather x) (gather (turn x))
   round_down = by_kind (λ x. Joined graph (gather x) (gather (turn x)))
       (gathered u (turn u) gu (ap gather is.tu ∙ gv))
       (gathered v (turn v) gv (ap gather is.tv ∙ gu))
-      (λ x m. on (equal_joined graph (gather x) x (gather_old x m)) (on (round names other x m) (equal_joined graph (turn x) (gather (turn x)) (sym (gather_old (turn x) (is.turn_in x m))))))
-
-  over_up : (x : ℕ) → is_member ◌==◌ names x ≡ true → Joined drawn_graph x (other x)
-  over_up = by_end (λ x. Joined drawn_graph x (other x))
-      (on p_to_u (on u_to_v (on v_to_q (equal_joined drawn_graph q (other p) (sym is.pq)))))
-      (on (back v_to_q) (on (back u_to_v) (on (back p_to_u) (equal_joined drawn_graph p (other q) (sym is.qp)))))
-      (λ x m e. on (over more drawn x (old_more x m)) (equal_joined drawn_graph (drawn x) (other x) e))
+      (λ x m. on (equal_joined graph (gather x) x (gather_old names p x m)) (on (round names turn other x m) (equal_joined graph (turn x) (gather (turn x)) (sym (gather_old names p (turn x) (is.turn_in x m))))))
 
   subdivided_pieces : part_count more drawn_graph ≡ part_count names graph
   subdivided_pieces =
-      retract more names drawn_graph graph gather (λ z. z) (pair_among more drawn drawn_more turn_more) (pair_among names other is.other_in is.turn_in)
+      retract more names drawn_graph graph gather (λ z. z) (pair_among more turn drawn drawn_more turn_more) (pair_among names turn other is.other_in is.turn_in)
       record {
-        onto_others = (let M = is_member ◌==◌ names in by_kind (λ x. is_member ◌==◌ names (gather x) ≡ true) (ap M gu ∙ is.has_p) (ap M gv ∙ is.has_p) (λ x m. ap M (gather_old x m) ∙ m));
+        onto_others = (let M = is_member ◌==◌ names in by_kind (λ x. is_member ◌==◌ names (gather x) ≡ true) (ap M gu ∙ is.has_p) (ap M gv ∙ is.has_p) (λ x m. ap M (gather_old names p x m) ∙ m));
         into_names = old_more;
-        one_of = gather_old;
+        one_of = gather_old names p;
         near = by_kind (λ x. Joined drawn_graph x (gather x))
             (on (back p_to_u) (equal_joined drawn_graph p (gather u) (sym gu)))
             (on (back u_to_v) (on (back p_to_u) (equal_joined drawn_graph p (gather v) (sym gv))))
-            (λ x m. equal_joined drawn_graph x (gather x) (sym (gather_old x m)));
+            (λ x m. equal_joined drawn_graph x (gather x) (sym (gather_old names p x m)));
         down = λ x y e. ⊎_elim
             (λ l. let r = step_of drawn more x y l in on (over_down x r.0) (equal_joined graph (gather (drawn x)) (gather y) (ap gather r.1)))
             (λ l. let r = step_of turn more x y l in on (round_down x r.0) (equal_joined graph (gather (turn x)) (gather y) (ap gather r.1)))
             (Contains-append_cases (steps drawn more) (steps turn more) (x, y) e);
         up = λ x y e. ⊎_elim
-            (λ l. let r = step_of other names x y l in on (over_up x r.0) (equal_joined drawn_graph (other x) y r.1))
-            (λ l. let r = step_of turn names x y l in on (round more drawn x (old_more x r.0)) (equal_joined drawn_graph (turn x) y r.1))
+            (λ l. let r = step_of other names x y l in on (still_over names other drawn p q is.kept more turn old_more (on p_to_u (on u_to_v v_to_q)) is.pq is.qp x r.0) (equal_joined drawn_graph (other x) y r.1))
+            (λ l. let r = step_of turn names x y l in on (round more turn drawn x (old_more x r.0)) (equal_joined drawn_graph (turn x) y r.1))
             (Contains-append_cases (steps other names) (steps turn names) (x, y) e);
       }
 

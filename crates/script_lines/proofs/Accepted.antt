@@ -1,11 +1,12 @@
 -- What an accepted script is made of: each step was accepted, and each diagram has a value.
-use Rattle.std.proofs.Common.{◌≡◌, ℕ, ◌+◌, List, [], ◌∷◌, Option, Some, None, Result, Ok, Err, refl, sym, ap, ◌∙◌}
+use Rattle.std.proofs.Common.{◌≡◌, ◌⊎◌, inl, inr, ℕ, ◌+◌, false, List, [], ◌∷◌, Option, Some, None, Result, Ok, Err, refl, sym, ap, ◌∙◌}
 use Rattle.root_quantum.specs.Parameters.{Parameters}
 use Rattle.planar_check.specs.declared.fault.PlanarFault.{PlanarFault}
 use Rattle.planar_check.specs.Places.{item_slots}
 use Rattle.planar_check.specs.Planar.{planar_refusal}
 use Rattle.script_reader.specs.declared.step.Step.{Step}
-use Rattle.diagram_moves.specs.declared.fault.MoveFault.{MoveFault}
+use Rattle.script_reader.specs.declared.step.Step.TheVariants.{R2, R2Undo, R3, Curl, CurlUndo, BlowUp, Slide}
+use Rattle.script_reader.specs.Steps.{is_slide}
 use Rattle.diagram_moves.specs.Scripts.{judged, kept_planar}
 use Rattle.diagram_moves.specs.Steps.{Answer, Moved, of_plane}
 use Rattle.wrt_values.specs.declared.fault.ValueRefusal.{ValueRefusal}
@@ -14,8 +15,9 @@ use Rattle.script_values.specs.declared.drawing.Drawing.{Drawing}
 use Rattle.script_values.specs.declared.fault.ScriptRefusal.{ScriptRefusal}
 use Rattle.script_values.specs.declared.fault.ScriptRefusal.TheVariants.{Step as StepRefused}
 use Rattle.script_values.specs.Drawings.{made, value_in}
-use Rattle.script_values.specs.Scripts.{after, behind, against_step, stepped, drawings, at_line, values, script_values}
-use Rattle.script_lines.proofs.ToldRefusals.{IsTold}
+use Rattle.script_values.specs.Scripts.{after, behind, stepped, drawings, at_line, values, script_values}
+use Rattle.script_values.specs.declared.step_fault.StepFault.{StepFault}
+use Rattle.script_lines.proofs.ToldRefusals.{IsRefused}
 
 -- ---- results of stages
 pub after_Ok : {A B : Type 0} (first : Result A ScriptRefusal) (next : A → Result B ScriptRefusal) (all : B) → after first next ≡ Ok all → (value : A) × (first ≡ Ok value) × (next value ≡ Ok all)
@@ -36,9 +38,19 @@ judged_is (Err fault) moved h = let e : ◌≡◌ {A = Answer} (Err fault) (Ok m
 judged_is (Ok made) moved h = ap Ok (kept_is made moved (planar_refusal item_slots made.items) h)
 
 -- a step whose refusal is told doesn't go on
-pub told_stops : (k : ℕ) (last next : Drawing) (fault : MoveFault) → IsTold fault → stepped k last (Err fault) ≡ Ok next → ⊥
+pub told_stops : (k : ℕ) (last next : Drawing) (fault : StepFault) → IsRefused fault → stepped k last (Err fault) ≡ Ok next → ⊥
 told_stops k last next fault told h =
-    let e : ◌≡◌ {A = Result Drawing ScriptRefusal} (Err (StepRefused k told.0)) (Ok next) = sym (ap (against_step k last) told.1) ∙ h in absurd (cc)
+    let e : ◌≡◌ {A = Result Drawing ScriptRefusal} (Err (StepRefused k told.0)) (Ok next) = sym (ap (λ f. stepped k last (Err f)) told.1) ∙ h in absurd (cc)
+
+-- a step is a slide, or none
+pub slide_or_move : (step : Step) → (is_slide step ≡ false) ⊎ ((edge : ℕ) × (along : ℕ) × (step ≡ Slide edge along))
+slide_or_move (R2 over under) = inl refl
+slide_or_move (R2Undo first second) = inl refl
+slide_or_move (R3 first second third) = inl refl
+slide_or_move (Curl edge sign) = inl refl
+slide_or_move (CurlUndo crossing) = inl refl
+slide_or_move (BlowUp sign) = inl refl
+slide_or_move (Slide edge along) = inr (edge, along, refl)
 
 -- ---- the whole
 pub script_of : (p : Parameters) (first : Drawing) (steps : List Step) (lines : List ℕ) → script_values p first steps ≡ Ok lines →

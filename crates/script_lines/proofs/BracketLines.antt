@@ -1,9 +1,10 @@
 -- The lines of a script without framings.
-use Rattle.std.proofs.Common.{◌≡◌, ◌∙◌, ℕ, zero, suc, ◌+◌, ◌*◌, ◌%◌, ◌<◌, List, [], ◌∷◌, length, map, slice_index_or, Result, Ok, Err, refl, sym, ap, ap₂, subst, arith, add-one}
+use Rattle.std.proofs.Common.{◌≡◌, ◌∙◌, inl, inr, ℕ, zero, suc, ◌+◌, ◌*◌, ◌%◌, ◌<◌, List, [], ◌∷◌, length, map, slice_index_or, Result, Ok, Err, refl, sym, ap, ap₂, subst, arith, add-one}
 use Rattle.root_quantum.specs.Parameters.{Parameters}
 use Rattle.pd_reader.specs.declared.item.Item.{Item}
 use Rattle.diagram_brackets.specs.Brackets.{bracket}
 use Rattle.script_reader.specs.declared.step.Step.{Step}
+use Rattle.script_reader.specs.declared.step.Step.TheVariants.{Slide}
 use Rattle.frontier_laws.specs.Orders.{listed_of}
 use Rattle.diagram_moves.specs.Scripts.{applied, going_on, behind as played_behind, played}
 use Rattle.diagram_moves.specs.Steps.{Answer, Moved}
@@ -13,10 +14,14 @@ use Rattle.wrt_values.proofs.OneResidue.{one_residue_law}
 use Rattle.script_values.specs.declared.drawing.Drawing.{Drawing}
 use Rattle.script_values.specs.declared.drawing.Drawing.TheVariants.{Plain}
 use Rattle.script_values.specs.declared.fault.ScriptRefusal.{ScriptRefusal}
-use Rattle.script_values.specs.Drawings.{plain_of}
+use Rattle.script_values.specs.declared.fault.ScriptRefusal.TheVariants.{Step as StepRefused}
+use Rattle.script_values.specs.declared.step_refusal.StepRefusal.TheVariants.{SlideNeedsFramings}
+use Rattle.script_values.specs.Drawings.{made, plain_of}
+use Rattle.script_values.specs.Refusals.{fault_of_move}
+use Rattle.script_values.proofs.Moves.{plain_move}
 use Rattle.script_values.specs.Scripts.{behind, stepped, drawings, values}
 use Rattle.script_lines.specs.Laws.{factors, BracketLinesLaw}
-use Rattle.script_lines.proofs.Accepted.{after_Ok, behind_Ok, told_stops, script_of, first_line, no_lines}
+use Rattle.script_lines.proofs.Accepted.{after_Ok, behind_Ok, slide_or_move, told_stops, script_of, first_line, no_lines}
 use Rattle.script_lines.proofs.ToldRefusals.{Tells, refusals_are_told}
 
 -- ---- the diagrams are those of the steps' results
@@ -25,7 +30,17 @@ diagrams items results = items ∷ map (λ moved. moved.items) results
 
 step_of : (k : ℕ) (last next : Drawing) (answer : Answer) → Tells answer → stepped k last (plain_of answer) ≡ Ok next → (moved : Moved) × (answer ≡ Ok moved) × (next ≡ Plain moved.items)
 step_of k last next (Ok moved) told h = (moved, refl, (let e : ◌≡◌ {A = Result Drawing ScriptRefusal} (Ok (Plain moved.items)) (Ok next) = h in cc))
-step_of k last next (Err fault) told h = absurd (told_stops k last next fault told h)
+step_of k last next (Err fault) told h = absurd (told_stops k last next (fault_of_move fault) told h)
+
+-- a slide is refused
+moved_is : (k : ℕ) (items : List Item) (step : Step) (next : Drawing) → stepped k (Plain items) (made (Plain items) step) ≡ Ok next → stepped k (Plain items) (plain_of (applied items step)) ≡ Ok next
+moved_is k items step next h = elim (slide_or_move step) [
+  | inl other ↦ sym (ap (stepped k (Plain items)) (plain_move items step other)) ∙ h
+  | inr slide ↦ absurd (slide_stops slide.0 slide.1 (ap (λ s. stepped k (Plain items) (made (Plain items) s)) (sym slide.2) ∙ h))
+]
+  where
+    slide_stops : (e f : ℕ) → stepped k (Plain items) (made (Plain items) (Slide e f)) ≡ Ok next → ⊥
+    slide_stops e f h = let e : ◌≡◌ {A = Result Drawing ScriptRefusal} (Err (StepRefused k SlideNeedsFramings)) (Ok next) = h in absurd (cc)
 
 pub record ArePlayed (k : ℕ) (items : List Item) (steps : List Step) (all : List Drawing) : Type 0 where
   pub results : List Moved
@@ -37,8 +52,8 @@ are_played : (k : ℕ) (items : List Item) (steps : List Step) (all : List Drawi
 are_played k items [] all h =
     let e : ◌≡◌ {A = Result (List Drawing) ScriptRefusal} (Ok (Plain items ∷ [])) (Ok all) = h in record { results = []; are_results = refl; are_all = cc; count = refl }
 are_played k items (step ∷ steps) all h =
-    let a = after_Ok (stepped k (Plain items) (plain_of (applied items step))) (λ next. behind (Plain items) (drawings (k + 1) next steps)) all h in
-    let b = step_of k (Plain items) a.0 (applied items step) (refusals_are_told items step) a.1 in
+    let a = after_Ok (stepped k (Plain items) (made (Plain items) step)) (λ next. behind (Plain items) (drawings (k + 1) next steps)) all h in
+    let b = step_of k (Plain items) a.0 (applied items step) (refusals_are_told items step) (moved_is k items step a.0 a.1) in
     let c = behind_Ok (Plain items) (drawings (k + 1) a.0 steps) all a.2 in
     let moved = b.0 in
     let rest = are_played (k + 1) moved.items steps c.0 (ap (λ next. drawings (k + 1) next steps) (sym b.2) ∙ c.1) in

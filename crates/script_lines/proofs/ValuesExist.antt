@@ -60,7 +60,7 @@ module _ (p : Parameters) (n : ℕ) (exist : inverses p n ≡ Ok tt) where
   coprime_up_to zero low = λ j a b. absurd (omega (arith, b))
   coprime_up_to (suc k) low = λ j some below. one_more_coprime k (omega (arith, low)) (coprime_up_to k (omega (arith, low))) j some below (eqb j k) refl
 
-  has_projector : (k : ℕ) → k ≤ n → HasProjector p k
+  pub has_projector : (k : ℕ) → k ≤ n → HasProjector p k
   unfolding found_projector
   has_projector k low = record {
     inverse = λ j. inverse_of p.modulus (quantum_residue p.modulus (loop_value p) j);
@@ -93,7 +93,7 @@ omega_exists p sign count exists some = coprime_inverse p.modulus (omega_of p si
         ∙ exists in absurd (cc)
 
 -- ---- the stages of a value
-and_Ok : {A : Type 0} (first : Result (Unit {0}) ValueRefusal) (next : Result A ValueRefusal) (value : A) → result_and first next ≡ Ok value → (first ≡ Ok tt) × (next ≡ Ok value)
+pub and_Ok : {A : Type 0} (first : Result (Unit {0}) ValueRefusal) (next : Result A ValueRefusal) (value : A) → result_and first next ≡ Ok value → (first ≡ Ok tt) × (next ≡ Ok value)
 and_Ok (Ok _) next value h = (refl, h)
 and_Ok (Err refusal) next value h = absurd (cc)
 

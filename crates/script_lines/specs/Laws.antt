@@ -4,8 +4,10 @@
 --     factors p results                          the values of the factors of the steps with these results
 --     AreBracketLines p items steps lines        the lines of a script without framings
 --     AreSurgeryLines p framed steps lines       the lines of a script with framings
-use Rattle.std.specs.Prelude.{◌≡◌, ℕ, ◌+◌, ◌*◌, ◌%◌, ◌<◌, ◌≤◌, List, ◌∷◌, ◌++◌, length, map, slice_index, Ok}
+--     AreColouredLines p first steps lines       the lines of a script with colours
+use Rattle.std.specs.Prelude.{◌≡◌, ℕ, ◌+◌, ◌*◌, ◌%◌, ◌<◌, ◌≤◌, Bool, true, false, List, ◌∷◌, ◌++◌, length, map, slice_index, Ok}
 use Rattle.root_quantum.specs.Parameters.{Parameters}
+use Rattle.root_quantum.specs.QuantumNumbers.{loop_value}
 use Rattle.pd_reader.specs.declared.item.Item.{Item}
 use Rattle.pd_reader.specs.Diagrams.{labels, IsDiagram}
 use Rattle.pd_reader.specs.Items.{item_labels}
@@ -13,15 +15,18 @@ use Rattle.planar_check.specs.declared.sign.Sign.{Sign}
 use Rattle.planar_check.specs.Components.{greatest}
 use Rattle.planar_check.specs.Framings.{FramedDiagram, IsFramed}
 use Rattle.diagram_brackets.specs.Brackets.{bracket}
+use Rattle.coloured_values.specs.Coloured.{coloured}
 use Rattle.coloured_values.specs.Surgery.{surgery}
 use Rattle.script_reader.specs.declared.step.Step.{Step}
-use Rattle.script_reader.specs.declared.step.Step.TheVariants.{BlowUp}
+use Rattle.script_reader.specs.declared.step.Step.TheVariants.{R2, R2Undo, R3, Curl, CurlUndo, BlowUp, Slide}
 use Rattle.diagram_moves.specs.Laws.{IsPairedDiagram}
 use Rattle.diagram_moves.specs.Scripts.{played}
 use Rattle.diagram_moves.specs.Steps.{Moved}
 use Rattle.diagram_moves.specs.Values.{factor_value}
 use Rattle.move_script.specs.declared.moved.TheConstants.{GREATEST_LABEL}
-use Rattle.script_values.specs.declared.drawing.Drawing.TheVariants.{Plain, Framed}
+use Rattle.script_values.specs.declared.drawing.Drawing.TheVariants.{Plain, Framed, Coloured}
+use Rattle.script_values.specs.declared.drawing.TheConstants.{NEW_LABELS}
+use Rattle.script_values.specs.Colours.{ColouredDiagram, HasFit}
 use Rattle.script_values.specs.Scripts.{drawings, script_values}
 
 -- The values of the factors of steps: -A^3 to the power of the curls that came, times delta to the power of the circles.
@@ -52,8 +57,42 @@ pub record AreSurgeryLines (p : Parameters) (framed : FramedDiagram) (steps : Li
 pub record IsFramedStart (framed : FramedDiagram) (steps : List Step) : Type 0 where
   pub diagram : IsDiagram framed.items
   pub framings : IsFramed framed
-  pub room : greatest (labels item_labels framed.items) + 4 * length steps ≤ GREATEST_LABEL
+  pub room : greatest (labels item_labels framed.items) + NEW_LABELS * length steps ≤ GREATEST_LABEL
 
 abbrev pub SurgeryLinesLaw : Type 0
 SurgeryLinesLaw =
     (p : Parameters) (framed : FramedDiagram) (steps : List Step) (lines : List ℕ) → IsFramedStart framed steps → script_values p (Framed framed) steps ≡ Ok lines → AreSurgeryLines p framed steps lines
+
+-- ---- with colours
+-- The line of a diagram with colours: its value with these, and its own framing.
+abbrev pub coloured_line : Parameters → ColouredDiagram → ℕ
+coloured_line p diagram = coloured p diagram.items diagram.colours
+
+-- The steps that repeat the line before: R2, R2Undo and R3.
+abbrev pub keeps_line : Step → Bool
+keeps_line (R2 over under) = true
+keeps_line (R2Undo first second) = true
+keeps_line (R3 first second third) = true
+keeps_line (Curl edge sign) = false
+keeps_line (CurlUndo crossing) = false
+keeps_line (BlowUp sign) = false
+keeps_line (Slide edge along) = false
+
+-- Each line is the value of its diagram with its colours; behind R2, R2Undo and R3 the line stands again, and a blow-up multiplies it by delta.
+pub record AreColouredLines (p : Parameters) (first : ColouredDiagram) (steps : List Step) (lines : List ℕ) : Type 0 where
+  -- the first diagram and what each step gives
+  pub diagrams : List ColouredDiagram
+  pub are_diagrams : drawings 1 (Coloured first) steps ≡ Ok (map (λ diagram. Coloured diagram) diagrams)
+  pub values : lines ≡ map (coloured_line p) diagrams
+  pub repeated : (before behind : List Step) (step : Step) → keeps_line step ≡ true → steps ≡ before ++ step ∷ behind → slice_index lines (length before + 1) ≡ slice_index lines (length before)
+  pub multiplied : (before behind : List Step) (sign : Sign) → steps ≡ before ++ BlowUp sign ∷ behind → slice_index lines (length before + 1) ≡ loop_value p * slice_index lines (length before) % p.modulus
+
+-- The colours fit, and there is room for the labels of all steps.
+pub record IsColouredStart (p : Parameters) (first : ColouredDiagram) (steps : List Step) : Type 0 where
+  pub diagram : IsDiagram first.items
+  pub fit : HasFit p first
+  pub room : greatest (labels item_labels first.items) + NEW_LABELS * length steps ≤ GREATEST_LABEL
+
+abbrev pub ColouredLinesLaw : Type 0
+ColouredLinesLaw =
+    (p : Parameters) (first : ColouredDiagram) (steps : List Step) (lines : List ℕ) → IsColouredStart p first steps → script_values p (Coloured first) steps ≡ Ok lines → AreColouredLines p first steps lines

@@ -5,4 +5,4 @@
 
 mod laws;
 
-pub use laws::{bracket_lines, surgery_lines};
+pub use laws::{bracket_lines, coloured_lines, surgery_lines};

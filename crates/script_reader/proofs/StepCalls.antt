@@ -1,5 +1,5 @@
--- A step is one of six calls, which its head tells apart.
-use Rattle.std.proofs.Common.{inl, inr, ◌≡◌, ℕ, cond, codes, List, [], ◌∷◌, get_or, refl, sym, ap, subst, arith}
+-- A step is one of seven calls, which its head tells apart.
+use Rattle.std.proofs.Common.{inl, inr, ◌≡◌, ℕ, cond, codes, List, [], ◌∷◌, get_or, refl, sym, ap, ◌∙◌, subst, arith}
 use Rattle.text_shapes.specs.Shapes.{AreOf, call}
 use Rattle.text_shapes.specs.Reach.{is_word_byte, IsWord}
 use Rattle.text_shapes.proofs.Choice.{AreCalls, Makes, OneOf, same_bytes}
@@ -38,7 +38,8 @@ slots_of h =
     (cond (same_bytes h (codes "R3")) (number ∷ number ∷ number ∷ [])
     (cond (same_bytes h (codes "Curl")) (number ∷ sign ∷ [])
     (cond (same_bytes h (codes "CurlUndo")) (number ∷ [])
-    (sign ∷ [])))))
+    (cond (same_bytes h (codes "Slide")) (number ∷ number ∷ [])
+    (sign ∷ []))))))
 
 -- the step of a head and its arguments
 abbrev pub step_of : List ℕ → List StepArgument → Step
@@ -48,18 +49,20 @@ step_of h all =
     (cond (same_bytes h (codes "R3")) (steps.R3 (number_in (at all 0)) (number_in (at all 1)) (number_in (at all 2)))
     (cond (same_bytes h (codes "Curl")) (steps.Curl (number_in (at all 0)) (sign_in (at all 1)))
     (cond (same_bytes h (codes "CurlUndo")) (steps.CurlUndo (number_in (at all 0)))
-    (steps.BlowUp (sign_in (at all 0)))))))
+    (cond (same_bytes h (codes "Slide")) (steps.Slide (number_in (at all 0)) (number_in (at all 1)))
+    (steps.BlowUp (sign_in (at all 0))))))))
 
 abbrev pub heads : List (List ℕ)
-heads = codes "BlowUp" ∷ codes "CurlUndo" ∷ codes "Curl" ∷ codes "R3" ∷ codes "R2Undo" ∷ codes "R2" ∷ []
+heads = codes "Slide" ∷ codes "BlowUp" ∷ codes "CurlUndo" ∷ codes "Curl" ∷ codes "R3" ∷ codes "R2Undo" ∷ codes "R2" ∷ []
 
 pub all_heads : (step : Step) → OneOf heads (head step)
-all_heads (steps.BlowUp s) = inl refl
-all_heads (steps.CurlUndo crossing) = inr (inl refl)
-all_heads (steps.Curl edge s) = inr (inr (inl refl))
-all_heads (steps.R3 first second third) = inr (inr (inr (inl refl)))
-all_heads (steps.R2Undo first second) = inr (inr (inr (inr (inl refl))))
-all_heads (steps.R2 over under) = inr (inr (inr (inr (inr (inl refl)))))
+all_heads (steps.Slide edge along) = inl refl
+all_heads (steps.BlowUp s) = inr (inl refl)
+all_heads (steps.CurlUndo crossing) = inr (inr (inl refl))
+all_heads (steps.Curl edge s) = inr (inr (inr (inl refl)))
+all_heads (steps.R3 first second third) = inr (inr (inr (inr (inl refl))))
+all_heads (steps.R2Undo first second) = inr (inr (inr (inr (inr (inl refl)))))
+all_heads (steps.R2 over under) = inr (inr (inr (inr (inr (inr (inl refl))))))
 
 pub r2_word : IsWord (codes "R2")
 unfolding is_word_byte
@@ -85,6 +88,10 @@ pub blow_up_word : IsWord (codes "BlowUp")
 unfolding is_word_byte
 blow_up_word = (omega arith, (refl, (refl, (refl, (refl, (refl, (refl, tt)))))))
 
+pub slide_word : IsWord (codes "Slide")
+unfolding is_word_byte
+slide_word = (omega arith, (refl, (refl, (refl, (refl, (refl, tt))))))
+
 pub step_calls : AreCalls argument_tokens IsArgumentOf IsTextStep step_tokens slots_of step_of head arguments_of
 step_calls = record { word = word; tokens_are = λ _. refl; of_kinds = of_kinds; back_is = back_is }
   where
@@ -95,6 +102,7 @@ step_calls = record { word = word; tokens_are = λ _. refl; of_kinds = of_kinds;
     word (steps.Curl edge s) = curl_word
     word (steps.CurlUndo crossing) = curl_undo_word
     word (steps.BlowUp s) = blow_up_word
+    word (steps.Slide edge along) = slide_word
 
     of_kinds : (v : Step) → IsTextStep v → AreOf IsArgumentOf (slots_of (head v)) (arguments_of v)
     of_kinds (steps.R2 over under) h = ((tt, h.0), ((tt, h.1.0), tt))
@@ -103,6 +111,7 @@ step_calls = record { word = word; tokens_are = λ _. refl; of_kinds = of_kinds;
     of_kinds (steps.Curl edge s) h = ((tt, h.0), ((tt, h.1.0), tt))
     of_kinds (steps.CurlUndo crossing) h = ((tt, h.0), tt)
     of_kinds (steps.BlowUp s) h = ((tt, h.0), tt)
+    of_kinds (steps.Slide edge along) h = ((tt, h.0), ((tt, h.1.0), tt))
 
     back_is : (v : Step) → step_of (head v) (arguments_of v) ≡ v
     back_is (steps.R2 over under) = refl
@@ -111,6 +120,7 @@ step_calls = record { word = word; tokens_are = λ _. refl; of_kinds = of_kinds;
     back_is (steps.Curl edge s) = refl
     back_is (steps.CurlUndo crossing) = refl
     back_is (steps.BlowUp s) = refl
+    back_is (steps.Slide edge along) = refl
 
 -- ---- what the arguments of a head are
 is_number : (a : StepArgument) → IsArgumentOf number a → arguments.Number (number_in a) ≡ a
@@ -138,6 +148,13 @@ two_of k l (a ∷ rest) h = let r = one_of l rest h.1 in (a, r.0, ap (λ (xs : L
 three_of : (k l m : StepArgument) (all : List StepArgument) → AreOf IsArgumentOf (k ∷ l ∷ m ∷ []) all → (a b d : StepArgument) × (all ≡ a ∷ b ∷ d ∷ []) × IsArgumentOf k a × IsArgumentOf l b × IsArgumentOf m d
 three_of k l m [] h = absurd h
 three_of k l m (a ∷ rest) h = let r = two_of l m rest h.1 in (a, r.0, r.1, ap (λ (xs : List StepArgument). a ∷ xs) r.2, h.0, r.3, r.4)
+
+-- two numbers are told by their places
+pub pair_is : (all : List StepArgument) (m n : ℕ) → AreOf IsArgumentOf (number ∷ number ∷ []) all → at all 0 ≡ arguments.Number m → at all 1 ≡ arguments.Number n → all ≡ arguments.Number m ∷ arguments.Number n ∷ []
+pair_is [] m n h e f = absurd h
+pair_is (a ∷ []) m n h e f = absurd h.1
+pair_is (a ∷ b ∷ []) m n h e f = ap (λ (x : StepArgument). x ∷ b ∷ []) e ∙ ap (λ (x : StepArgument). arguments.Number m ∷ x ∷ []) f
+pair_is (a ∷ b ∷ d ∷ rest) m n h e f = absurd h.1.1
 
 -- the arguments of the step that they make are they
 abbrev Back : List ℕ → List StepArgument → Type 0
@@ -179,6 +196,9 @@ back_curl_undo all h = let r = one_of number all h in rw r.1 ((ap (λ (x : StepA
 back_blow_up : (all : List StepArgument) → AreOf IsArgumentOf (sign ∷ []) all → Back (codes "BlowUp") all
 back_blow_up all h = let r = one_of sign all h in rw r.1 ((ap (λ (x : StepArgument). x ∷ []) (is_sign r.0 r.2), (text_sign r.0 r.2, tt)))
 
+back_slide : (all : List StepArgument) → AreOf IsArgumentOf (number ∷ number ∷ []) all → Back (codes "Slide") all
+back_slide all h = let r = two_of number number all h in rw r.2 ((two_numbers r.0 r.1 r.3 r.4, (text_number r.0 r.3, (text_number r.1 r.4, tt))))
+
 abbrev MakesStep : List ℕ → Type 0
 MakesStep h = Makes argument_tokens IsArgumentOf IsTextStep step_tokens slots_of step_of head h
 
@@ -199,3 +219,6 @@ makes_curl_undo = record { head_is = λ all h. refl; fits_back = λ all h. (back
 
 pub makes_blow_up : MakesStep (codes "BlowUp")
 makes_blow_up = record { head_is = λ all h. refl; fits_back = λ all h. (back_blow_up all h).1; tokens_back = λ all h. ap (call argument_tokens (codes "BlowUp")) (back_blow_up all h).0 }
+
+pub makes_slide : MakesStep (codes "Slide")
+makes_slide = record { head_is = λ all h. refl; fits_back = λ all h. (back_slide all h).1; tokens_back = λ all h. ap (call argument_tokens (codes "Slide")) (back_slide all h).0 }

@@ -1,3 +1,4 @@
+pub mod Steps
 pub mod StepTexts
 pub mod ScriptTexts
 pub mod Laws

@@ -1,5 +1,5 @@
--- The texts of steps: R2[n,n], R2Undo[n,n], R3[n,n,n], Curl[n,s], CurlUndo[n] and BlowUp[s], where a sign s is
--- + or -. (This project's own.)
+-- The texts of steps: R2[n,n], R2Undo[n,n], R3[n,n,n], Curl[n,s], CurlUndo[n], BlowUp[s] and Slide[n,n], where a
+-- sign s is + or -. (This project's own.)
 --
 --     head step                the word that a step begins with
 --     arguments_of step        what stands between its brackets: numbers and signs
@@ -50,6 +50,10 @@ abbrev pub IsArgumentOf : StepArgument → StepArgument → Type 0
 IsArgumentOf (arguments.Number slot) a = IsNumberArgument a × IsTextArgument a
 IsArgumentOf (arguments.Sign slot) a = IsSignArgument a × IsTextArgument a
 
+-- the slots of a call with two numbers
+abbrev pub pair_slots : List StepArgument
+pair_slots = arguments.Number 1 ∷ arguments.Number 1 ∷ []
+
 -- some argument of the slot's kind
 abbrev pub some_argument : StepArgument → StepArgument
 some_argument (arguments.Number slot) = arguments.Number 1
@@ -68,6 +72,7 @@ head (steps.R3 first second third) = codes "R3"
 head (steps.Curl edge sign) = codes "Curl"
 head (steps.CurlUndo crossing) = codes "CurlUndo"
 head (steps.BlowUp sign) = codes "BlowUp"
+head (steps.Slide edge along) = codes "Slide"
 
 abbrev pub arguments_of : Step → List StepArgument
 arguments_of (steps.R2 over under) = arguments.Number over ∷ arguments.Number under ∷ []
@@ -76,6 +81,7 @@ arguments_of (steps.R3 first second third) = arguments.Number first ∷ argument
 arguments_of (steps.Curl edge sign) = arguments.Number edge ∷ arguments.Sign sign ∷ []
 arguments_of (steps.CurlUndo crossing) = arguments.Number crossing ∷ []
 arguments_of (steps.BlowUp sign) = arguments.Sign sign ∷ []
+arguments_of (steps.Slide edge along) = arguments.Number edge ∷ arguments.Number along ∷ []
 
 abbrev pub step_tokens : Step → List (List ℕ)
 step_tokens step = call argument_tokens (head step) (arguments_of step)
@@ -94,3 +100,4 @@ step_begins_unclosed (steps.R3 first second third) h = refl
 step_begins_unclosed (steps.Curl edge sign) h = refl
 step_begins_unclosed (steps.CurlUndo crossing) h = refl
 step_begins_unclosed (steps.BlowUp sign) h = refl
+step_begins_unclosed (steps.Slide edge along) h = refl

@@ -7,7 +7,7 @@ use std::alloc::AllocError;
 use std::test::*;
 
 /// Texts that are refused, and why.
-const REFUSED: [(&[u8], TextFault); 18] = [
+const REFUSED: [(&[u8], TextFault); 20] = [
     (b"", TextFault::Text { at: 0 }),
     (b"PD[]", TextFault::Head { at: 0 }),
     (b"Moves[]", TextFault::Text { at: 6 }),
@@ -22,7 +22,9 @@ const REFUSED: [(&[u8], TextFault); 18] = [
     (b"Moves[PD[],Curl[1,2]]", TextFault::Number { at: 18 }),
     (b"Moves[PD[],Curl[+,1]]", TextFault::Text { at: 16 }),
     (b"Moves[PD[],BlowUp[0]]", TextFault::Number { at: 18 }),
-    (b"Moves[PD[],Slide[1,2]]", TextFault::Head { at: 11 }),
+    (b"Moves[PD[],Slid[1,2]]", TextFault::Text { at: 15 }),
+    (b"Moves[PD[],Slide[1]]", TextFault::Text { at: 18 }),
+    (b"Moves[PD[],Slide[+,1]]", TextFault::Text { at: 17 }),
     (b"Moves[PD[],BlowUp[+]]x", TextFault::Head { at: 21 }),
     (
         b"Moves[PD[X[1,1,1,2]]]",
@@ -44,8 +46,13 @@ fn refused_texts(rt: HostRuntime) -> Result<(), Fail> {
 }
 
 /// Texts that are read, and what they spell.
-const READ: [(&[u8], &[Item], &[Step]); 3] = [
+const READ: [(&[u8], &[Item], &[Step]); 4] = [
     (b"Moves[PD[]]", &[], &[]),
+    (
+        b"Moves[PD[],Slide[12,3]]",
+        &[],
+        &[Step::Slide { edge: 12, along: 3 }],
+    ),
     (
         b"Moves[PD[X[2,5,4,1],X[3,3,6,5],X[6,2,1,4]],R3[1,2,3],CurlUndo[2]]",
         &[

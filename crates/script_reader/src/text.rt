@@ -27,8 +27,8 @@ fn read_text(alloc: Global, bytes: &[u8]) -> Result<(Vec<Item>, Vec<Step>), Stop
 }
 
 /// The script that the bytes spell: `Moves[PD[item,..,item],step,..,step]`, a diagram as `read_pd` reads it and
-/// any number of steps `R2[n,n]`, `R2Undo[n,n]`, `R3[n,n,n]`, `Curl[n,s]`, `CurlUndo[n]` and `BlowUp[s]`, where a
-/// sign s is `+` or `-` (this project's own). White space may stand anywhere but inside a token.
+/// any number of steps `R2[n,n]`, `R2Undo[n,n]`, `R3[n,n,n]`, `Curl[n,s]`, `CurlUndo[n]`, `BlowUp[s]` and
+/// `Slide[n,n]`, where a sign s is `+` or `-` (this project's own). White space may stand anywhere but inside a token.
 ///
 /// Where the bytes are no such text, the refusal stands at a byte as `read_pd` says. Then `TooMany` comes past 256
 /// items and holds 256, then past 1,000 steps and holds 1000. `Label` holds the least label that doesn't stand

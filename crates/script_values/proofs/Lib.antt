@@ -1,1 +1,3 @@
 mod Played
+pub mod Moves
+pub mod ColoursKept

@@ -5,8 +5,6 @@ use Rattle.std.proofs.Math.Seq.{drop-cons}
 use Rattle.std.proofs.lemmas.List.{append_assoc}
 use Rattle.root_quantum.specs.Parameters.{Parameters}
 use Rattle.script_reader.specs.declared.step.Step.{Step}
-use Rattle.diagram_moves.specs.declared.fault.MoveFault.{MoveFault}
-use Rattle.diagram_moves.specs.declared.fault.MoveFault.TheVariants as faults
 use Rattle.wrt_values.specs.declared.fault.ValueFault.{ValueFault}
 use Rattle.wrt_values.specs.declared.fault.ValueFault.TheVariants as value_faults
 use Rattle.wrt_values.specs.declared.fault.ValueRefusal.{ValueRefusal}
@@ -16,6 +14,8 @@ use Rattle.script_values.specs.declared.drawing.Drawing.{Drawing}
 use Rattle.script_values.specs.declared.fault.ScriptFault.{ScriptFault}
 use Rattle.script_values.specs.declared.fault.ScriptFault.TheVariants.{Refused, Memory}
 use Rattle.script_values.specs.declared.fault.ScriptRefusal.{ScriptRefusal}
+use Rattle.script_values.specs.declared.step_fault.StepFault.{StepFault}
+use Rattle.script_values.specs.declared.step_fault.StepFault.TheVariants as faults
 use Rattle.script_values.specs.Drawings.{made, value_in}
 use Rattle.script_values.specs.Refusals.{fault_of_step, fault_at_line}
 use Rattle.script_values.specs.Scripts.{after, behind, stepped, drawings, at_line, values, Fails}
@@ -50,22 +50,13 @@ dropped_at all k x h is = dropped all k x h ∙ ap (λ y. y ∷ drop (k + 1) all
 
 -- ---- steps
 -- a step that is refused, or for which memory was wanting
-step_fails : (k : ℕ) (last : Drawing) (fault : MoveFault) → Fails (stepped k last (Err fault)) (fault_of_step k fault)
-step_fails k last (faults.NoEdge edge) = refl
-step_fails k last (faults.NoCrossing crossing) = refl
-step_fails k last faults.SameEdge = refl
-step_fails k last (faults.LoopEdge edge) = refl
-step_fails k last faults.NotSameFace = refl
-step_fails k last faults.NotBigon = refl
-step_fails k last faults.NotTriangle = refl
-step_fails k last faults.NotCurl = refl
-step_fails k last (faults.TooMany limit) = refl
-step_fails k last (faults.NotPlanar faces wanted) = refl
+step_fails : (k : ℕ) (last : Drawing) (fault : StepFault) → Fails (stepped k last (Err fault)) (fault_of_step k fault)
+step_fails k last (faults.Refused reason) = refl
 step_fails k last faults.Memory = tt
 
-made_fails : (k : ℕ) (last : Drawing) (found : Result Drawing MoveFault) (fault : MoveFault) → (fault ≡ faults.Memory) ⊎ (found ≡ Err fault) → Fails (stepped k last found) (fault_of_step k fault)
-made_fails k last found fault (inl memory) = let F : MoveFault → Type 0 = λ f. Fails (stepped k last found) (fault_of_step k f) in subst F (sym memory) tt
-made_fails k last found fault (inr is) = let F : Result Drawing MoveFault → Type 0 = λ f. Fails (stepped k last f) (fault_of_step k fault) in subst F (sym is) (step_fails k last fault)
+made_fails : (k : ℕ) (last : Drawing) (found : Result Drawing StepFault) (fault : StepFault) → (fault ≡ faults.Memory) ⊎ (found ≡ Err fault) → Fails (stepped k last found) (fault_of_step k fault)
+made_fails k last found fault (inl memory) = let F : StepFault → Type 0 = λ f. Fails (stepped k last found) (fault_of_step k f) in subst F (sym memory) tt
+made_fails k last found fault (inr is) = let F : Result Drawing StepFault → Type 0 = λ f. Fails (stepped k last f) (fault_of_step k fault) in subst F (sym is) (step_fails k last fault)
 
 module _ (k : ℕ) (done : List Drawing) (last : Drawing) (steps rest : List Step) (step : Step) (is : steps ≡ step ∷ rest) where
   abbrev next_drawings : Drawing → Result (List Drawing) ScriptRefusal
@@ -77,7 +68,7 @@ module _ (k : ℕ) (done : List Drawing) (last : Drawing) (steps rest : List Ste
       ap (λ all. before done (drawings k last all)) is ∙ ap (λ found. before done (after (stepped k last found) next_drawings)) e ∙ before_more done last (drawings (k + 1) next rest)
 
   -- one that is not
-  pub no_more_steps : (all : Result (List Drawing) ScriptRefusal) → all ≡ before done (drawings k last steps) → (fault : MoveFault) → (fault ≡ faults.Memory) ⊎ (made last step ≡ Err fault)
+  pub no_more_steps : (all : Result (List Drawing) ScriptRefusal) → all ≡ before done (drawings k last steps) → (fault : StepFault) → (fault ≡ faults.Memory) ⊎ (made last step ≡ Err fault)
       → Fails all (fault_of_step k fault)
   no_more_steps all e fault h =
       let F : Result (List Drawing) ScriptRefusal → Type 0 = λ r. Fails r (fault_of_step k fault) in

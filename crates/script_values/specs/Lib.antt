@@ -1,3 +1,4 @@
+pub mod Colours
 pub mod Drawings
 pub mod Refusals
 pub mod Scripts

@@ -8,10 +8,9 @@
 --     Gives view defined result  a call answers so: the definition's value, or its refusal, or want of memory
 --
 -- At 41, 2, 5 an unknot has the bracket 6, and 36 after a blow-up.
-use Rattle.std.specs.Prelude.{◌≡◌, ℕ, ◌+◌, List, [], ◌∷◌, Option, Some, None, Result, Ok, Err}
+use Rattle.std.specs.Prelude.{◌≡◌, ℕ, ◌+◌, List, [], ◌∷◌, Result, Ok, Err}
 use Rattle.root_quantum.specs.Parameters.{Parameters}
 use Rattle.script_reader.specs.declared.step.Step.{Step}
-use Rattle.diagram_moves.specs.declared.fault.MoveFault.{MoveFault}
 use Rattle.wrt_values.specs.declared.fault.ValueRefusal.{ValueRefusal}
 use Rattle.wrt_values.specs.declared.value.Value.{Value}
 use Rattle.script_values.specs.declared.drawing.Drawing.{Drawing}
@@ -19,9 +18,9 @@ use Rattle.script_values.specs.declared.fault.ScriptFault.{ScriptFault}
 use Rattle.script_values.specs.declared.fault.ScriptFault.TheVariants.{Refused, Memory}
 use Rattle.script_values.specs.declared.fault.ScriptRefusal.{ScriptRefusal}
 use Rattle.script_values.specs.declared.fault.ScriptRefusal.TheVariants.{Step as StepRefused, Line}
-use Rattle.script_values.specs.declared.move_refusal.MoveRefusal.{MoveRefusal}
+use Rattle.script_values.specs.declared.step_fault.StepFault.{StepFault}
+use Rattle.script_values.specs.declared.step_fault.StepFault.TheVariants as steps
 use Rattle.script_values.specs.Drawings.{made, value_in}
-use Rattle.script_values.specs.Refusals.{refusal_of_move}
 
 -- What follows from a result, or its refusal.
 abbrev pub after : {A B : Type 0} → Result A ScriptRefusal → (A → Result B ScriptRefusal) → Result B ScriptRefusal
@@ -34,14 +33,11 @@ behind first (Ok rest) = Ok (first ∷ rest)
 behind first (Err refusal) = Err refusal
 
 -- ---- steps
--- The refusal of step k, where there is one; no definition of a step is in want of memory.
-abbrev pub against_step : ℕ → Drawing → Option MoveRefusal → Result Drawing ScriptRefusal
-against_step k drawing (Some reason) = Err (StepRefused k reason)
-against_step k drawing None = Ok drawing
-
-abbrev pub stepped : ℕ → Drawing → Result Drawing MoveFault → Result Drawing ScriptRefusal
+-- What step k gives, or its refusal; no definition of a step is in want of memory.
+abbrev pub stepped : ℕ → Drawing → Result Drawing StepFault → Result Drawing ScriptRefusal
 stepped k drawing (Ok next) = Ok next
-stepped k drawing (Err fault) = against_step k drawing (refusal_of_move fault)
+stepped k drawing (Err (steps.Refused reason)) = Err (StepRefused k reason)
+stepped k drawing (Err steps.Memory) = Ok drawing
 
 abbrev pub drawings : ℕ → Drawing → List Step → Result (List Drawing) ScriptRefusal
 drawings k first [] = Ok (first ∷ [])

@@ -4,8 +4,8 @@ ghost use Rattle.std.specs.Prelude.{◌≡◌, Some};
 ghost use Rattle.script_values.specs.Refusals.{fault_at_line, fault_of_step, text_of_script};
 ghost use Rattle.script_values.specs.declared.fault.ScriptFault.TheVariants as faults;
 
-use crate::move_refusal::MoveRefusal;
-use diagram_moves::MoveFault;
+use crate::step_fault::StepFault;
+use crate::step_refusal::StepRefusal;
 use std::alloc::{AllocError, AllocFailed};
 use std::fmt;
 use wrt_values::{ValueFault, ValueRefusal};
@@ -14,7 +14,7 @@ use wrt_values::{ValueFault, ValueRefusal};
 #[derive(Clone, Copy, Debug, PartialEq, Eq)]
 pub enum ScriptRefusal {
     /// The step with this number, from 1, is refused.
-    Step { step: u32, reason: MoveRefusal },
+    Step { step: u32, reason: StepRefusal },
     /// The diagram with this number, from 0 for the first one, has no value.
     Line { line: u32, reason: ValueRefusal },
 }
@@ -41,12 +41,14 @@ pub enum ScriptFault {
 
 impl ScriptFault {
     /// The fault of a script, for this one of a step.
-    pub(crate) fn of_step(step: u32, fault: MoveFault) -> ScriptFault
+    pub(crate) fn of_step(step: u32, fault: StepFault) -> ScriptFault
         ensures { result ≡ fault_of_step step fault }
     {
-        match MoveRefusal::of(fault) {
-            Some(reason) => ScriptFault::Refused(ScriptRefusal::Step { step, reason }),
-            None => ScriptFault::Memory,
+        match fault {
+            StepFault::Refused(reason) => {
+                ScriptFault::Refused(ScriptRefusal::Step { step, reason })
+            }
+            StepFault::Memory => ScriptFault::Memory,
         }
     }
 

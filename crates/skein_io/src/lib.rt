@@ -1,8 +1,8 @@
 //! Sources and sinks of bytes: what a read takes, what a write appends, and how often either failed.
 //!
 //! `read_all` and `write_all` work over every source and sink. `MemorySource` and `MemorySink` tell
-//! their bytes and fail on the calls that they are told; `StdSource` and `StdSink` are the edge to the
-//! system's streams and tell none.
+//! their bytes and fail on the calls that they are told; `StdStream` is the edge to the system's
+//! streams and tells none.
 #![tactic(auto)]
 
 mod calls;
@@ -11,8 +11,7 @@ mod memory_source;
 mod reading;
 mod sink;
 mod source;
-mod std_sink;
-mod std_source;
+mod std_stream;
 mod writing;
 
 pub use memory_sink::MemorySink;
@@ -20,8 +19,7 @@ pub use memory_source::MemorySource;
 pub use reading::{ReadAll, read_all};
 pub use sink::Sink;
 pub use source::{Failed, Source};
-pub use std_sink::StdSink;
-pub use std_source::StdSource;
+pub use std_stream::StdStream;
 pub use writing::{Wrote, write_all};
 
 #[cfg(test)]

@@ -103,14 +103,14 @@ fn streams(rt: HostRuntime) -> Result<(), Fail> {
 
     // The system's streams: a pipe, and a stream that does nothing.
     let (reader, writer) = io::pipe(&rt)?;
-    let mut sink = StdSink::new(writer);
+    let mut sink = StdStream::new(writer);
     assert_eq!(rt; write_all(&mut sink, TEXT), Ok(()));
     drop(sink);
-    let mut source = StdSource::new(reader);
+    let mut source = StdStream::new(reader);
     assert_eq!(rt; read_all(rt.alloc(), &mut source, 14)?.as_slice(), TEXT);
-    let stuck = read_all(rt.alloc(), &mut StdSource::new(Stuck), 14);
+    let stuck = read_all(rt.alloc(), &mut StdStream::new(Stuck), 14);
     assert_eq!(rt; stuck.err(), Some(ReadAll::Fault));
-    let stuck = write_all(&mut StdSink::new(Stuck), TEXT);
+    let stuck = write_all(&mut StdStream::new(Stuck), TEXT);
     assert_eq!(rt; stuck, Err(Wrote::Fault { sent: 0 }));
     Ok(())
 }

@@ -1,11 +1,11 @@
 -- The boxes at an item are those of its different labels, in increasing order, whose edges have one and aren't seen before.
 --
 -- The numbers up to the greatest label that are labels of the item are its different labels.
---
--- Others cite: with_box, without_box, label_low, box_nodes_are.
-use Rattle.std.proofs.Common.{◌≡◌, ℕ, ◌+◌, ◌<◌, ◌≤◌, ◌==◌, ◌&&◌, not, Bool, true, false, cond, List, [], ◌∷◌, ◌++◌, map, length, get_or, drop, refl, sym, ap, subst, ◌∙◌, arith, append_assoc, drop-cons, add-one, All}
+-- So the boxes of the definition are those that the code puts down label by label.
+use Rattle.std.proofs.Common.{◌≡◌, ℕ, ◌+◌, ◌<◌, ◌≤◌, ◌==◌, ◌&&◌, not, Bool, true, false, cond, List, [], ◌∷◌, ◌++◌, map, length, get_or, drop, refl, sym, ap, subst, ◌∙◌, arith, append_assoc, drop-cons, add-one, All, ⊎_elim}
 use Rattle.std.specs.List.{filter, range_with_len}
 use Rattle.std.specs.Set.{is_member}
+use Rattle.std.proofs.lemmas.Bool.{cases_Bool}
 use Rattle.std.proofs.lemmas.Bool.Decides.{Decides-eqb}
 use Rattle.std.proofs.lemmas.Map.Made.{is_member-Decides}
 use Rattle.state_sums.specs.Networks.{Node}
@@ -14,6 +14,9 @@ use Rattle.planar_check.specs.Components.{greatest, distinct}
 use Rattle.planar_check.proofs.ComponentLists.{filter-filter, distinct-member}
 use Rattle.cables.specs.Strands.{Strands}
 use Rattle.cables.specs.Cables.{Standing, past_all, box_nodes}
+use Rattle.skein_network.specs.declared.colouring.Colouring.{Colouring}
+use Rattle.skein_network.specs.Edges.{boxed_at}
+use Rattle.skein_network.specs.Colourings.{IsReady}
 use Rattle.skein_network.specs.Boxes.{label_box, boxes_among, boxes_at}
 
 -- ---- one label after the other
@@ -37,6 +40,21 @@ module _ (strands : Strands) (group : ℕ) (seen labels : List ℕ) (i x : ℕ) 
       ap (λ ns. ns ++ boxes_among strands group seen (drop (i + 1) labels)) same
       ∙ ap (λ ns. old ++ ns) (sym (unrolled ∙ ap (λ b. map (label_box strands group) (cond b (x ∷ filter test (drop (i + 1) labels)) (filter test (drop (i + 1) labels)))) t))
       ∙ before
+
+-- no label has a box, where no projector is held
+pub none_boxed : (strands : Strands) (group : ℕ) (seen labels : List ℕ) → ((label : ℕ) → strands.boxed label ≡ false) → boxes_among strands group seen labels ≡ []
+none_boxed strands group seen [] none = refl
+none_boxed strands group seen (x ∷ labels) none =
+    let test : ℕ → Bool = λ label. strands.boxed label && not (is_member ◌==◌ seen label) in
+    ap (λ b. map (label_box strands group) (cond (b && not (is_member ◌==◌ seen x)) (x ∷ filter test labels) (filter test labels))) (none x)
+    ∙ none_boxed strands group seen labels none
+
+pub unboxed_without : (colouring : Colouring) → IsReady colouring → length colouring.projectors.items ≡ 0 → (label : ℕ) → boxed_at colouring.edges.items label ≡ false
+unboxed_without colouring ready none label =
+    ⊎_elim
+    (λ t. let within = (ready.held label (ready.some label t)).1.1 in absurd (omega (arith, within, none)))
+    (λ f. f)
+    (cases_Bool (boxed_at colouring.edges.items label))
 
 -- the different labels are those of the list
 pub label_low : (slots : List ℕ) → All (λ label. label ≤ 2000000) slots → (i : ℕ) → i < length (distinct slots) → get_or (distinct slots) i 0 ≤ 2000000

@@ -1,6 +1,6 @@
 -- What `cable_net` has found before it makes the nodes, and what that tells of the cable.
 --
--- Others cite: net_high, net_edges_coloured, net_edges_fit, net_cable, net_cable_weights.
+-- No colour is past the top, each fits its items, and the cable of the edges is that of the net, with residues as weights.
 use Rattle.std.proofs.Common.{◌≡◌, ℕ, ◌≤◌, List, length, None, refl, sym, ap, subst, ◌∙◌, arith}
 use Rattle.std.specs.List.{AllByRecursion}
 use Rattle.state_sums.specs.Networks.{Network, WeightsBelow}

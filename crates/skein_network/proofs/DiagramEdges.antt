@@ -1,6 +1,5 @@
 -- The edges of a diagram have the colours of the components, at the labels that stand in it. So their cable is the diagram's.
---
--- Others cite: edge_is, diagram_coloured, diagram_fits, diagram_cable, diagram_weights.
+-- Opposite slots have one colour, each colour of at least 2 is of the list, and the weights of the cable are residues.
 use Rattle.std.proofs.Common.{◌≡◌, ℕ, zero, suc, ◌-◌, ◌≤◌, ◌==◌, Bool, true, false, cond, List, [], ◌∷◌, length, map, slice_index, count_by, nat_le, le-leb, ◌&&◌, if◌then◌else◌, Some, None, unwrap_or, refl, sym, ap, ap₂, subst, ◌∙◌, arith, ⊎_elim}
 use Rattle.std.specs.List.{AllByRecursion}
 use Rattle.std.specs.Set.{is_member}
@@ -42,6 +41,11 @@ edge_is items colours sizes label m k least component at some =
   where
     edge_with : ℕ → ℕ → Bool → Edge
     edge_with label colour boxed = record { label = label; colour = colour; boxed = boxed }
+
+-- what holds of each member holds of the list
+every : (P : ℕ → Type 0) (ls : List ℕ) → ((x : ℕ) → is_member ◌==◌ ls x ≡ true → P x) → AllByRecursion P ls
+every P [] h = tt
+every P (x ∷ ls) h = (h x (grind (arith, nat_tests)), every P ls (λ y m. h y (grind (arith, nat_tests, m))))
 
 module _ (items : List Item) (colours : List ℕ) where
   -- ---- at a label of the list, and at any other
@@ -120,10 +124,6 @@ module _ (items : List Item) (colours : List ℕ) where
         let c = colour_here label m in
         let b = boxed_here label m in
         record { first = ap (λ n. first_names n label) c; second = ap₂ (λ n t. second_names n t label) c b; boxed = b }
-
-    every : (P : ℕ → Type 0) (ls : List ℕ) → ((x : ℕ) → is_member ◌==◌ ls x ≡ true → P x) → AllByRecursion P ls
-    every P [] h = tt
-    every P (x ∷ ls) h = (h x (grind (arith, nat_tests)), every P ls (λ y m. h y (grind (arith, nat_tests, m))))
 
     -- THE CABLE OF THE EDGES
     pub diagram_cable : cable p (strands_at p edges) (as_net items) ≡ cabled p items colours

@@ -2,8 +2,7 @@
 --
 -- Where a colour has no projector the greatest has none either, by the same index and divisor: the first Delta that shares a factor
 -- with the modulus stands below both.
---
--- Others cite: IsFoundBelow, found_start, found_one, found_skip, no_inverse_above, no_common_below.
+-- So when all colours of the list are behind, each has its projector, and no Delta below the greatest shares a factor.
 use Rattle.std.proofs.Common.{◌≡◌, ℕ, ◌+◌, ◌<◌, ◌≤◌, ◌==◌, true, false, List, [], ◌∷◌, ◌++◌, Some, None, Option, IfSome, refl, sym, ap, ◌∙◌, arith, subst, ⊎_elim, All, max}
 use Rattle.std.specs.List.{Contains}
 use Rattle.std.specs.Set.{is_member}

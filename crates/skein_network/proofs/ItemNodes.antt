@@ -1,13 +1,14 @@
 -- The nodes of an item, as they are put behind the others: its boxes, and the cable between the names at its slots.
 --
--- Others cite: seen_next, at_crossing, at_vertex, FitsGrid, fits_grid, fits_vertex, pushed_crossing, pushed_vertex, no_loop, some_loop.
-use Rattle.std.proofs.Common.{◌≡◌, ℕ, zero, suc, ◌+◌, ◌*◌, ◌%◌, ◌<◌, ◌≤◌, List, [], ◌∷◌, ◌++◌, length, get_or, reverse, refl, sym, ap, ap₂, ◌∙◌, arith, append_assoc}
+-- The names at the slots fit a grid, or a vertex, since the colours fit the item; what is pushed between them is the item's cable.
+use Rattle.std.proofs.Common.{◌≡◌, ℕ, zero, suc, ◌+◌, ◌*◌, ◌%◌, ◌<◌, ◌≤◌, false, List, [], ◌∷◌, ◌++◌, map, length, get_or, reverse, refl, sym, ap, ap₂, ◌∙◌, arith, append_assoc}
+use Rattle.std.specs.List.{range_with_len}
 use Rattle.std.proofs.lemmas.List.{reverse-append}
 use Rattle.std.proofs.lemmas.List.FromFn.{length-map-range_with_len}
-use Rattle.state_sums.specs.Networks.{Node, Term}
+use Rattle.state_sums.specs.Networks.{Node}
 use Rattle.root_quantum.specs.Parameters.{Parameters}
 use Rattle.pd_reader.specs.declared.item.NetItem.TheVariants.{X, Y}
-use Rattle.cables.specs.Strands.{Strands, names_at, first_names}
+use Rattle.cables.specs.Strands.{Strands, names_at, first_names, second_names}
 use Rattle.cables.specs.CableNodes.{crossing_cable, vertex_cable, box_node}
 use Rattle.cables.specs.Cables.{item_nodes, loop_nodes, Fits, IsAdmissible}
 use Rattle.cables.specs.Nets.{projector_of}
@@ -17,7 +18,7 @@ use Rattle.cable_grids.specs.declared.crossing.CrossingEnds.{CrossingEnds}
 use Rattle.cable_grids.specs.declared.vertex.VertexEnds.{VertexEnds}
 use Rattle.skein_network.specs.declared.edge.Edge.{Edge}
 use Rattle.skein_network.specs.Edges.{colour_at, boxed_at, strands_at}
-use Rattle.skein_network.specs.Boxes.{boxes_at}
+use Rattle.skein_network.specs.Boxes.{strands_box, boxes_at}
 use Rattle.skein_network.specs.Standings.{standing_at, AreAtFour, AreAtCrossing, AreAtThree, AreAtVertex}
 use Rattle.skein_network.proofs.BoxLists.{box_nodes_are}
 
@@ -158,16 +159,22 @@ module _ (strands : Strands) (p : Parameters) (group index : ℕ) (seen : List �
   pushed_vertex (x ∷ y ∷ z ∷ w ∷ slots) ends at boxes pushed = absurd at
 
 -- ---- loops
-module _ (strands : Strands) (group label : ℕ) where
-  pub no_loop : (n : ℕ) → n < 2 → loop_nodes strands group (first_names n label) ≡ []
-  no_loop zero h = refl
-  no_loop (suc zero) h = refl
-  no_loop (suc (suc n)) h = absurd (omega (arith, h))
+module _ (group label : ℕ) where
+  pub no_loop : (strands : Strands) (n : ℕ) → n < 2 → loop_nodes strands group (first_names n label) ≡ []
+  no_loop strands zero h = refl
+  no_loop strands (suc zero) h = refl
+  no_loop strands (suc (suc n)) h = absurd (omega (arith, h))
 
-  pub some_loop : (n : ℕ) → 2 ≤ n → (terms : List Term) → terms ≡ strands.box n → (old new : List Node) (xs ys : List ℕ) → xs ≡ first_names n label → ys ≡ reverse (first_names n label) →
-      new ≡ old ++ box_node group terms xs ys ∷ [] → new ≡ old ++ loop_nodes strands group (first_names n label)
-  some_loop zero h terms t old new xs ys x y pushed = absurd (omega (arith, h))
-  some_loop (suc zero) h terms t old new xs ys x y pushed = absurd (omega (arith, h))
-  some_loop (suc (suc n)) h terms t old new xs ys x y pushed =
+  -- the second names without a box of their own are the first ones back
+  back_names : (n : ℕ) → second_names n false label ≡ reverse (first_names n label)
+  back_names n = let same : (λ (i : ℕ). 16 * label + 2 * i + 0) ≡ (λ (i : ℕ). 16 * label + 2 * i) = λ j i. plain i j in ap (λ (g : ℕ → ℕ). reverse (map g (range_with_len 0 n))) same
+    where
+      plain : (i : ℕ) → 16 * label + 2 * i + 0 ≡ 16 * label + 2 * i
+      plain i = omega arith
+
+  pub loop_box : (p : Parameters) (edges : List Edge) (n : ℕ) → 2 ≤ n → strands_box p n group false label ∷ [] ≡ loop_nodes (strands_at p edges) group (first_names n label)
+  loop_box p edges zero h = absurd (omega (arith, h))
+  loop_box p edges (suc zero) h = absurd (omega (arith, h))
+  loop_box p edges (suc (suc n)) h =
       let long = length-map-range_with_len (λ i. 16 * label + 2 * i) 0 (suc (suc n)) in
-      pushed ∙ ap₂ (λ u v. old ++ box_node group terms u v ∷ []) x y ∙ ap (λ u. old ++ box_node group u (first_names (suc (suc n)) label) (reverse (first_names (suc (suc n)) label)) ∷ []) (t ∙ ap strands.box (sym long))
+      ap₂ (λ terms back. box_node group terms (first_names (suc (suc n)) label) back ∷ []) (ap (projector_of p) (sym long)) (back_names (suc (suc n)))

@@ -1,6 +1,5 @@
--- What an item adds, at whatever group a loop would have.
---
--- Others cite: crossing_anywhere, vertex_anywhere, one_loop, no_free_loop.
+-- What an item adds: the nodes of a crossing or a vertex don't depend on the group that a loop would have, and a loop adds a free
+-- loop exactly where its colour is 1.
 use Rattle.std.proofs.Common.{◌≡◌, ◌≢◌, ℕ, zero, suc, ◌+◌, List, [], ◌∷◌, refl, ap}
 use Rattle.root_quantum.specs.Parameters.{Parameters}
 use Rattle.pd_reader.specs.declared.item.NetItem.TheVariants.{X, Y}

@@ -1,11 +1,12 @@
 -- What a projector that was found lends: its terms are those of the definition, at most 1,430 of them.
 --
--- Others cite: lent_terms, few_terms, held_at, finds_for, names_long, pushed_box.
-use Rattle.std.proofs.Common.{◌≡◌, ℕ, zero, suc, ◌+◌, ◌*◌, ◌≤◌, true, List, [], ◌∷◌, ◌++◌, length, refl, sym, ap, ap₂, subst, ◌∙◌, arith}
+-- The definition finds its inverses by trying each residue, so where they exist its projector is the one of the table. So a box with
+-- lent terms is the definition's.
+use Rattle.std.proofs.Common.{◌≡◌, ℕ, zero, suc, ◌+◌, ◌*◌, ◌≤◌, true, List, length, refl, sym, ap, ap₂, subst, ◌∙◌, arith}
 use Rattle.std.specs.List.{Contains}
 use Rattle.std.proofs.lemmas.List.{length-map}
 use Rattle.std.proofs.lemmas.List.FromFn.{length-map-range_with_len}
-use Rattle.state_sums.specs.Networks.{Node, Term}
+use Rattle.state_sums.specs.Networks.{Term}
 use Rattle.root_quantum.specs.Parameters.{Parameters}
 use Rattle.root_quantum.specs.QuantumNumbers.{loop_value}
 use Rattle.strand_algebra.specs.Noncrossing.{noncrossing}
@@ -22,7 +23,7 @@ use Rattle.cables.specs.Nets.{projector_of}
 use Rattle.cables.proofs.NumberedStrands.{first_length}
 use Rattle.skein_network.specs.declared.edge.Edge.{Edge}
 use Rattle.skein_network.specs.Edges.{colour_at, boxed_at, strands_at}
-use Rattle.skein_network.specs.Boxes.{label_box}
+use Rattle.skein_network.specs.Boxes.{strands_box, label_box}
 use Rattle.skein_network.specs.Colourings.{Holds, projector_in}
 
 -- THE TERMS THAT ARE LENT
@@ -63,12 +64,8 @@ finds_for (Own g) p n notes h = h.0
 pub names_long : (names : List ℕ) (n label : ℕ) → names ≡ first_names n label → length names ≡ n
 names_long names n label e = ap length e ∙ length-map-range_with_len (λ i. 16 * label + 2 * i) 0 n
 
-pub pushed_box : (p : Parameters) (edges : List Edge) (group label n : ℕ) (terms : List Term) (xs ys : List ℕ) (new old : List Node) →
-    new ≡ old ++ box_node group terms xs ys ∷ [] → terms ≡ projector_of p n → xs ≡ first_names n label → ys ≡ second_names n true label → n ≡ colour_at edges label → boxed_at edges label ≡ true →
-    new ≡ old ++ label_box (strands_at p edges) group label ∷ []
-pushed_box p edges group label n terms xs ys new old pushed t x y e f =
-    let n' = colour_at edges label in
+pub labelled_box : (p : Parameters) (edges : List Edge) (group label : ℕ) → boxed_at edges label ≡ true → strands_box p (colour_at edges label) group true label ≡ label_box (strands_at p edges) group label
+labelled_box p edges group label boxed =
+    let n = colour_at edges label in
     let long = first_length (colour_at edges) (boxed_at edges) (projector_of p) label in
-    pushed
-    ∙ ap₂ (λ t x. old ++ box_node group t x ys ∷ []) (t ∙ ap (projector_of p) (e ∙ sym long)) (x ∙ ap (λ k. first_names k label) e)
-    ∙ ap (λ y. old ++ box_node group (projector_of p (length (first_names n' label))) (first_names n' label) y ∷ []) (y ∙ ap₂ (λ k c. second_names k c label) e (sym f))
+    ap₂ (λ terms own_names. box_node group terms (first_names n label) (second_names n own_names label)) (ap (projector_of p) (sym long)) (sym boxed)

@@ -1,7 +1,7 @@
 -- Colours that aren't refused: as many as wanted, none past the top, so none above 8; and what the refusals say of a net.
 --
--- Others cite: few_colours, member_of, not_refused, unchanged, all_admissible, or_left_none, or_right_none, or_second, or_first,
--- no_projector, top_few.
+-- A refusal is the first one of a list of reasons: there is none where there is none of each, and it is the second's where the
+-- first gives none.
 use Rattle.std.proofs.Common.{◌≡◌, ℕ, zero, suc, ◌≤◌, ◌==◌, ◌⊎◌, inl, inr, nat_lt, max, true, false, if◌then◌else◌, List, [], ◌∷◌, length, Option, Some, None, Result, IfErr, refl, ap, arith, ⊎_elim}
 use Rattle.std.specs.List.{Contains}
 use Rattle.std.specs.Option.{option_or, option_map}

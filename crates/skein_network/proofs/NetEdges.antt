@@ -1,8 +1,8 @@
 -- The edges of a net, from its labels and as many colours.
 --
 -- A label's colour stands in the list of colours where the label stands among the labels.
---
--- Others cite: few_labels, edge_colours, net_strands_are, edges_coloured, net_fit, net_weights.
+-- So the strands of the edges are those of the net, and where nothing is refused the colours fit its items and the weights of the
+-- cable are residues.
 use Rattle.std.proofs.Common.{◌≡◌, ℕ, suc, ◌+◌, ◌≤◌, ◌==◌, not, nat_le, Bool, true, false, cond, List, [], ◌∷◌, None, length, slice_index, refl, sym, ap, ap₂, subst, ◌∙◌, arith}
 use Rattle.std.specs.List.{AllByRecursion, filter, range_with_len}
 use Rattle.std.specs.Set.{is_member}

@@ -1,6 +1,5 @@
--- One item more of a cable.
---
--- Others cite: IsAlong, along_next, along_start, along_end, item_low, item_fits, placed_drop.
+-- One item more of a cable: the nodes so far with the cable of the items that are left are the cable of all, before the first item,
+-- from one item to the next, and behind the last, where they are the cable.
 use Rattle.std.proofs.Common.{◌≡◌, ℕ, zero, suc, ◌+◌, ◌≤◌, ◌<◌, List, [], ◌∷◌, ◌++◌, length, get_or, drop, refl, sym, ap, ap₂, ◌∙◌, arith, All, append_assoc, append-nil, drop-cons, add-one, subst}
 use Rattle.std.specs.List.{AllByRecursion}
 use Rattle.std.proofs.lemmas.List.Elements.{All-nil, All-cons}

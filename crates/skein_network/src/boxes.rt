@@ -4,9 +4,9 @@ ghost use Rattle.std.specs.Prelude.{◌≡◌, ◌+◌, ◌++◌, ◌∷◌, [],
 ghost use Rattle.std.specs.List.{All};
 ghost use Rattle.std.specs.Set.{is_member};
 ghost use Rattle.cables.specs.CableNodes.{box_node};
-ghost use Rattle.skein_network.specs.Edges.{boxed_at};
+ghost use Rattle.skein_network.specs.Edges.{boxed_at, colour_at};
 ghost use Rattle.skein_network.specs.Colourings.{strands_in, IsReady};
-ghost use Rattle.skein_network.specs.Boxes.{label_box, boxes_at};
+ghost use Rattle.skein_network.specs.Boxes.{strands_box, boxes_at};
 
 use crate::colouring::{Colouring, terms_of};
 use crate::edge::{Edge, colour_of, is_boxed};
@@ -43,22 +43,25 @@ pub(crate) fn push_box(
     Ok(())
 }
 
-/// Puts the box of a label behind the nodes: strands 1 to n at its first place, then strands n to 1 at its second.
-fn push_label_box(
+/// Puts a box on the strands of a label behind the nodes: strands 1 to n by the names of the first place, then strands n to 1, by
+/// those of the second place where this has names of its own, and else by the same names.
+pub(crate) fn push_strands_box(
     alloc: Global,
     colouring: &Colouring,
     group: u32,
     label: u32,
+    own_names: bool,
     nodes: &mut Vec<Node>,
 ) -> Result<(), AllocError>
     requires ready { IsReady colouring.now }
-    requires boxed { boxed_at colouring.now.edges.items label ≡ true }
+    requires some { 2 ≤ colour_at colouring.now.edges.items label }
     requires low { label ≤ 2000000 }
-    ensures { OnOk result (nodes.new.items ≡ nodes.old.items ++ label_box (strands_in colouring.now) group label ∷ []) }
+    ensures { OnOk result (nodes.new.items ≡ nodes.old.items
+        ++ strands_box colouring.now.params.now (colour_at colouring.now.edges.items label) group own_names label ∷ []) }
 {
     let colour = colour_of(&colouring.edges, label);
     let first = first_names(alloc, colour, label)?;
-    let second = second_names(alloc, colour, true, label)?;
+    let second = second_names(alloc, colour, own_names, label)?;
     let terms = terms_of(colouring.params, &colouring.projectors, colour);
     push_box(alloc, group, terms, &first, &second, nodes)
 }
@@ -71,7 +74,7 @@ fn has_box(edges: &[Edge], seen: &[u32], label: u32) -> bool
 }
 
 /// Puts the boxes of the edges that have their first place at one of these slots behind the nodes, by increasing label;
-/// `seen` are the labels at the places before.
+/// `seen` are the labels at the places before. Where no projector was wanted there is none.
 pub(crate) fn push_boxes(
     alloc: Global,
     colouring: &Colouring,
@@ -84,9 +87,12 @@ pub(crate) fn push_boxes(
     requires low { All (λ label. label ≤ 2000000) slots.now }
     ensures { OnOk result (nodes.new.items ≡ nodes.old.items ++ boxes_at (strands_in colouring.now) group (reverse seen.now) slots.now) }
 {
+    if colouring.projectors.is_empty() {
+        return Ok(());
+    }
     for label in &distinct_labels(alloc, slots)? {
         if has_box(&colouring.edges, seen, *label) {
-            push_label_box(alloc, colouring, group, *label, nodes)?;
+            push_strands_box(alloc, colouring, group, *label, true, nodes)?;
         }
     }
     Ok(())

@@ -1,19 +1,19 @@
 //! The nodes of an item.
 
-ghost use Rattle.std.specs.Prelude.{◌≡◌, ◌++◌, ◌∷◌, [], ◌≤◌, ℕ, length, reverse, IfOk, OnOk};
+ghost use Rattle.std.specs.Prelude.{◌≡◌, ◌++◌, ◌∷◌, [], ◌≤◌, true, ℕ, length, reverse, IfOk, OnOk};
 ghost use Rattle.std.specs.List.{All};
 ghost use Rattle.pd_reader.specs.declared.item.NetItem.TheVariants.{X, Y};
 ghost use Rattle.root_quantum.specs.Parameters.{Parameters};
 ghost use Rattle.cables.specs.Strands.{first_names, names_at};
 ghost use Rattle.cables.specs.Cables.{item_nodes, loop_nodes, Fits};
-ghost use Rattle.skein_network.specs.Edges.{colour_at, strands_at};
+ghost use Rattle.skein_network.specs.Edges.{boxed_at, colour_at, strands_at};
 ghost use Rattle.skein_network.specs.Colourings.{strands_in, IsReady};
 ghost use Rattle.skein_network.specs.Standings.{standing_at, AreAtCrossing, AreAtVertex};
 
-use crate::boxes::{push_box, push_boxes};
-use crate::colouring::{Colouring, terms_of};
+use crate::boxes::{push_boxes, push_strands_box};
+use crate::colouring::Colouring;
 use crate::edge::{Edge, colour_of};
-use crate::strand::{first_names, names_at};
+use crate::strand::names_at;
 use arc_pairing::Node;
 use cable_grids::{CrossingEnds, VertexEnds, push_crossing, push_vertex};
 use std::alloc::{AllocError, Global};
@@ -26,6 +26,7 @@ fn next_names(
     label: u32,
 ) -> Result<Vec<u32>, AllocError>
     requires few { colour_at edges.now label ≤ 8 }
+    requires some { boxed_at edges.now label ≡ true → 2 ≤ colour_at edges.now label }
     requires low { label ≤ 2000000 }
     ensures names { IfOk result (λ names. (p : Parameters) → names.items ≡ names_at (strands_at p edges.now) (reverse seen.old.items) label) }
     ensures items { OnOk result (seen.new.items ≡ seen.old.items ++ label ∷ []) }
@@ -44,6 +45,7 @@ fn crossing_ends(
     slots: &[u32; 4],
 ) -> Result<CrossingEnds, AllocError>
     requires few { (label : ℕ) → colour_at edges.now label ≤ 8 }
+    requires some { (label : ℕ) → boxed_at edges.now label ≡ true → 2 ≤ colour_at edges.now label }
     requires low { All (λ label. label ≤ 2000000) slots.now }
     ensures names { IfOk result (λ ends. (p : Parameters) → AreAtCrossing (strands_at p edges.now) (reverse seen.old.items) slots.now ends) }
     ensures items { OnOk result (seen.new.items ≡ seen.old.items ++ slots.now) }
@@ -63,6 +65,7 @@ fn vertex_ends(
     slots: &[u32; 3],
 ) -> Result<VertexEnds, AllocError>
     requires few { (label : ℕ) → colour_at edges.now label ≤ 8 }
+    requires some { (label : ℕ) → boxed_at edges.now label ≡ true → 2 ≤ colour_at edges.now label }
     requires low { All (λ label. label ≤ 2000000) slots.now }
     ensures names { IfOk result (λ ends. (p : Parameters) → AreAtVertex (strands_at p edges.now) (reverse seen.old.items) slots.now ends) }
     ensures items { OnOk result (seen.new.items ≡ seen.old.items ++ slots.now) }
@@ -117,6 +120,9 @@ pub(crate) fn push_vertex_item(
     push_vertex(alloc, group, &ends, nodes)
 }
 
+/// The least colour at which a loop has a box.
+const LEAST_BOXED: u32 = 2;
+
 /// Puts the box of a loop behind the nodes, closed on itself, where the loop has at least two strands.
 pub(crate) fn push_loop_item(
     alloc: Global,
@@ -130,13 +136,8 @@ pub(crate) fn push_loop_item(
     ensures { OnOk result (nodes.new.items ≡ nodes.old.items
         ++ loop_nodes (strands_in colouring.now) group (first_names (colour_at colouring.now.edges.items label) label)) }
 {
-    let colour = colour_of(&colouring.edges, label);
-    if colour < 2 {
+    if colour_of(&colouring.edges, label) < LEAST_BOXED {
         return Ok(());
     }
-    let names = first_names(alloc, colour, label)?;
-    let mut back = Vec::from_slice(alloc, &names)?;
-    back.reverse();
-    let terms = terms_of(colouring.params, &colouring.projectors, colour);
-    push_box(alloc, group, terms, &names, &back, nodes)
+    push_strands_box(alloc, colouring, group, label, false, nodes)
 }

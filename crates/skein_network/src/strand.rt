@@ -1,10 +1,10 @@
 //! Names of strands at the places of an edge.
 
-ghost use Rattle.std.specs.Prelude.{◌≡◌, ◌==◌, ◌≤◌, IfOk, reverse};
+ghost use Rattle.std.specs.Prelude.{◌≡◌, ◌==◌, ◌≤◌, true, IfOk, reverse};
 ghost use Rattle.std.specs.Set.{is_member};
 ghost use Rattle.root_quantum.specs.Parameters.{Parameters};
 ghost use Rattle.cables.specs.Strands.{first_names, second_names, names_at};
-ghost use Rattle.skein_network.specs.Edges.{colour_at, strands_at};
+ghost use Rattle.skein_network.specs.Edges.{boxed_at, colour_at, strands_at};
 
 use crate::edge::{Edge, colour_of, is_boxed};
 use std::alloc::{AllocError, Global};
@@ -54,7 +54,8 @@ pub(crate) fn second_names(
     Ok(names)
 }
 
-/// The names at a place of the label, counterclockwise, where `seen` are the labels at the places before.
+/// The names at a place of the label, counterclockwise, where `seen` are the labels at the places before. At most one strand has
+/// the same name at both places.
 pub(crate) fn names_at(
     alloc: Global,
     edges: &[Edge],
@@ -62,10 +63,14 @@ pub(crate) fn names_at(
     label: u32,
 ) -> Result<Vec<u32>, AllocError>
     requires few { colour_at edges.now label ≤ 8 }
+    requires some { boxed_at edges.now label ≡ true → 2 ≤ colour_at edges.now label }
     requires low { label ≤ 2000000 }
     ensures { IfOk result (λ names. (p : Parameters) → names.items ≡ names_at (strands_at p edges.now) (reverse seen.now) label) }
 {
     let colour = colour_of(edges, label);
+    if colour < 2 {
+        return first_names(alloc, colour, label);
+    }
     if stands(seen, label) {
         second_names(alloc, colour, is_boxed(edges, label), label)
     } else {

@@ -1,3 +1,4 @@
 pub mod Copies
 pub mod Faces
 pub mod Sides
+pub mod Relabellings

@@ -10,6 +10,7 @@ mod edges;
 mod ends;
 mod labels;
 mod refusals;
+mod relabelling;
 mod result;
 mod slid;
 mod sliding;

@@ -160,7 +160,7 @@ pub fn slide(alloc: Global, framed: &Framed, edge: u32, along: u32) -> Result<Sl
     ensures inertia { IfOk result (λ done. HaveSameIndices (components framed.now) (linking_matrix framed.now) (linking_matrix done.framed)) }
     ensures components { IfOk result (λ done. least_labels done.framed.items ≡ least_labels framed.now.items) }
     // The greatest label rises little, so that a script of 1,000 steps from a text on has room.
-    ensures top { IfOk result (λ done. top_of done.framed.items ≤ top_of framed.now.items + 768) }
+    ensures top { IfOk result (λ done. top_of done.framed.items ≤ top_of framed.now.items + 512) }
 {
     let planar = framed.planar();
     let top = top(alloc, planar.diagram().items())?;

@@ -58,45 +58,21 @@ is_end into x e = (e.0 == x) && alike into e.1
 abbrev once : Bool → ℕ
 once b = cond b 1 0
 
+none_passes : (b : Bool) → once (b && false) ≡ 0
+none_passes true = refl
+none_passes false = refl
+
+all_pass : (b : Bool) → once (b && true) ≡ once b
+all_pass true = refl
+all_pass false = refl
+
 -- of both ends of a strand one is entered, the other left
 strand_ends : (into : Bool) (x : ℕ) (from to : ℕ) (ahead : Bool) →
     once (is_end into x (from, ahead)) + once (is_end into x (to, not ahead)) ≡ is_label x (cond (alike into ahead) from to)
-strand_ends true x from to true = let e = both_false (to == x) in omega (arith, by_true (from == x), e)
-  where
-    both_false : (b : Bool) → once (b && false) ≡ 0
-    both_false true = refl
-    both_false false = refl
-
-    by_true : (b : Bool) → once (b && true) ≡ once b
-    by_true true = refl
-    by_true false = refl
-strand_ends true x from to false = let e = both_false (from == x) in omega (arith, by_true (to == x), e)
-  where
-    both_false : (b : Bool) → once (b && false) ≡ 0
-    both_false true = refl
-    both_false false = refl
-
-    by_true : (b : Bool) → once (b && true) ≡ once b
-    by_true true = refl
-    by_true false = refl
-strand_ends false x from to true = let e = both_false (from == x) in omega (arith, by_true (to == x), e)
-  where
-    both_false : (b : Bool) → once (b && false) ≡ 0
-    both_false true = refl
-    both_false false = refl
-
-    by_true : (b : Bool) → once (b && true) ≡ once b
-    by_true true = refl
-    by_true false = refl
-strand_ends false x from to false = let e = both_false (to == x) in omega (arith, by_true (from == x), e)
-  where
-    both_false : (b : Bool) → once (b && false) ≡ 0
-    both_false true = refl
-    both_false false = refl
-
-    by_true : (b : Bool) → once (b && true) ≡ once b
-    by_true true = refl
-    by_true false = refl
+strand_ends true x from to true = let e = none_passes (to == x) in omega (arith, all_pass (from == x), e)
+strand_ends true x from to false = let e = none_passes (from == x) in omega (arith, all_pass (to == x), e)
+strand_ends false x from to true = let e = none_passes (from == x) in omega (arith, all_pass (to == x), e)
+strand_ends false x from to false = let e = none_passes (to == x) in omega (arith, all_pass (from == x), e)
 
 pub count_ends : (into : Bool) (x : ℕ) (ps : List Piece) → count_by (is_end into x) (ends ps) ≡ end_sum into (is_label x) (strands ps)
 count_ends into x [] = refl

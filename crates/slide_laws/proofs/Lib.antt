@@ -8,6 +8,7 @@ pub mod Inherited
 pub mod Matrices
 pub mod Refused
 pub mod Congruence
+pub mod FewLabels
 pub mod SlidDiagram
 pub mod Inertia
 mod Examples

@@ -32,7 +32,8 @@ use Rattle.slide_laws.proofs.DirectedItems.{items_back, sizes_of, standing-cons}
 use Rattle.slide_laws.proofs.Congruence.{i_some, i_within}
 use Rattle.list_lemmas.proofs.Times.{times_of_member, times_none}
 use Rattle.planar_check.specs.Directions.{comes_in}
-use Rattle.slide_laws.proofs.Numbers.{none_pass, leasts_same}
+use Rattle.slide_laws.proofs.FewLabels.{labels_few}
+use Rattle.slide_laws.proofs.Numbers.{leasts_same}
 use Rattle.planar_check.proofs.FewComponents.{at_member}
 use Rattle.slide_laws.proofs.Refused.{Passed, accepted}
 use Rattle.planar_check.proofs.Strands.{member_at_most}
@@ -82,53 +83,6 @@ greatest_below (y ∷ ls) bound h =
     let here = h y (or_left (y == y) (is_member ◌==◌ ls y) (eq-eqb y y refl)) in
     let rest = greatest_below ls bound (λ x m. h x (or_right (x == y) (is_member ◌==◌ ls x) m)) in
     omega (arith, here, rest)
-
--- ---- how many different labels a list has
-either_filter : (p q : ℕ → Bool) (ls : List ℕ) → length (filter (λ x. p x || q x) ls) ≤ length (filter p ls) + length (filter q ls)
-either_filter p q [] = omega arith
-either_filter p q (x ∷ ls) = by_tests (p x) (q x) (either_filter p q ls)
-  where
-    by_tests : (a b : Bool) → length (filter (λ x. p x || q x) ls) ≤ length (filter p ls) + length (filter q ls) →
-        length (cond (a || b) (x ∷ filter (λ x. p x || q x) ls) (filter (λ x. p x || q x) ls)) ≤ length (cond a (x ∷ filter p ls) (filter p ls)) + length (cond b (x ∷ filter q ls) (filter q ls))
-    by_tests true true h = omega (arith, h)
-    by_tests true false h = omega (arith, h)
-    by_tests false true h = omega (arith, h)
-    by_tests false false h = h
-
-one_passes : (y s n : ℕ) → length (filter (λ x. x == y) (range_with_len s n)) ≤ 1
-one_passes y s zero = omega arith
-one_passes y s (suc n) = elim (cases_Bool (s == y)) [
-  | inl h ↦ (
-      let is = eqb-true s y h in
-      let rest : filter (λ x. x == y) (range_with_len (s + 1) n) ≡ [] = none_pass (λ x. x == y) (s + 1) n (λ x l. ne_eqb x y (λ e. absurd (omega (arith, e, is, l)))) in
-      let now : filter (λ x. x == y) (range_with_len s (suc n)) ≡ s ∷ [] = ap₂ (λ (b : Bool) (xs : List ℕ). cond b (s ∷ xs) xs) h rest in
-      let long = ap length now in omega (arith, long))
-  | inr h ↦ (
-      let now : filter (λ x. x == y) (range_with_len s (suc n)) ≡ filter (λ x. x == y) (range_with_len (s + 1) n) = ap (λ (b : Bool). cond b (s ∷ filter (λ x. x == y) (range_with_len (s + 1) n)) (filter (λ x. x == y) (range_with_len (s + 1) n))) h in
-      let long = ap length now in omega (arith, long, one_passes y (s + 1) n))
-]
-
-few_different : (ls : List ℕ) (n : ℕ) → length (filter (is_member ◌==◌ ls) (range_with_len 0 n)) ≤ length ls
-few_different [] n = let e = ap length (none_pass (is_member ◌==◌ []) 0 n (λ y l. refl)) in omega (arith, e)
-few_different (y ∷ ls) n = omega (arith, either_filter (λ x. x == y) (is_member ◌==◌ ls) (range_with_len 0 n), one_passes y 0 n, few_different ls n)
-
-pub distinct_short : (ls : List ℕ) → length (distinct ls) ≤ length ls
-unfolding distinct
-distinct_short ls = few_different ls (greatest ls + 1)
-
-labels_long : (j : ℕ) (ps : List Piece) → length (strand_labels j (strands ps)) ≡ 2 * (crossings_with (has_one j) ps + 2 * crossings_with (has_two j) ps)
-labels_long j [] = refl
-labels_long j (Crossed u o ∷ ps) =
-    let e = by_tests (u.component == j) (o.component == j) u o (strand_labels j (strands ps)) in
-    omega (arith, e, labels_long j ps)
-  where
-    by_tests : (a b : Bool) (u o : Strand) (rest : List ℕ) →
-        length (cond a (u.from ∷ u.to ∷ cond b (o.from ∷ o.to ∷ rest) rest) (cond b (o.from ∷ o.to ∷ rest) rest)) ≡ 2 * once (not (a && b) && (a || b)) + 4 * once (a && b) + length rest
-    by_tests true true u o rest = omega arith
-    by_tests true false u o rest = omega arith
-    by_tests false true u o rest = omega arith
-    by_tests false false u o rest = omega arith
-labels_long j (Free label ∷ ps) = labels_long j ps
 
 items_long : (ps : List Piece) → length (items_of ps) ≡ length ps
 items_long [] = refl
@@ -224,10 +178,13 @@ module _ (framed : FramedDiagram) (diagram : IsDiagram framed.items) (is_framed 
   pub pieces_few : length pieces ≤ 256
   pieces_few = let limit = k.few in omega (arith, limit, long_after, start_long)
 
-  names_few : length names ≤ 2 * (crossings_with (has_one j) pieces + 2 * crossings_with (has_two j) pieces)
-  names_few = omega (arith, distinct_short (strand_labels j (strands pieces)), labels_long j pieces)
+  ready : Ready (start_class xs diagram j) (root xs diagram) e f i j (none xs diagram) m pieces
+  ready = framed_ready framed diagram e f k.e_placed k.f_placed k.apart
 
-  end_high : n + inner_count slide pieces ≤ top_of xs + 769
+  names_few : length names ≤ crossings_with (has_one j) pieces + 2 * crossings_with (has_two j) pieces
+  names_few = labels_few (start_class xs diagram j) j pieces ready.has.classed ready.has.directed
+
+  end_high : n + inner_count slide pieces ≤ top_of xs + 513
   end_high =
       let limit = k.few in
       omega (arith, limit, one_after, two_after, names_few, inner_is slide pieces)
@@ -241,9 +198,6 @@ module _ (framed : FramedDiagram) (diagram : IsDiagram framed.items) (is_framed 
   framed_simple =
       subst (λ (z : ℕ). IsSimple z (curls plus f j entered count (top_of xs + 1) (directed xs))) (let h : top_of xs + 1 + 2 * count ≡ top_of xs + 2 * count + 1 = omega arith in h)
       (curls_simple plus f j entered _ _ e i _ count (top_of xs + 1) (directed xs) (start_ready xs diagram e f k.e_placed k.f_placed k.apart) (omega arith) (start_simple xs diagram))
-
-  ready : Ready (start_class xs diagram j) (root xs diagram) e f i j (none xs diagram) m pieces
-  ready = framed_ready framed diagram e f k.e_placed k.f_placed k.apart
 
   back : ℕ → ℕ
   back x = slice_index names (x - m)
@@ -300,14 +254,14 @@ module _ (framed : FramedDiagram) (diagram : IsDiagram framed.items) (is_framed 
     twice = each_member (λ label. times_in all label ≡ 2) all stands_twice;
   }
 
-  pub top_small : top_of (items_of result) ≤ top_of xs + 768
-  top_small = greatest_below all (top_of xs + 768) (λ x t.
+  pub top_small : top_of (items_of result) ≤ top_of xs + 512
+  top_small = greatest_below all (top_of xs + 512) (λ x t.
       ⊎_elim (λ q. omega (arith, q)) (λ o. ⊎_elim (λ l. omega (arith, l))
       (λ l. absurd (
       let none = result_simple.none_above x (omega (arith, l, end_high)) in
       let two = stands_twice x t in
       omega (arith, two, twice_standing x result result_directed, none))) o)
-      (cases_order x (top_of xs + 768)))
+      (cases_order x (top_of xs + 512)))
 
   pub same_leasts : least_labels (items_of result) ≡ least_labels xs
   same_leasts =
@@ -344,5 +298,5 @@ slid_framed framed e f result diagram is_framed small ok =
       };
       planar = k.planar;
       leasts = ap (λ (s : SlidDiagram). least_labels s.framed.items) k.is ∙ same;
-      top = subst (λ (s : SlidDiagram). top_of s.framed.items ≤ top_of framed.items + 768) (sym k.is) (top_small framed diagram is_framed e f h in_e in_f small);
+      top = subst (λ (s : SlidDiagram). top_of s.framed.items ≤ top_of framed.items + 512) (sym k.is) (top_small framed diagram is_framed e f h in_e in_f small);
     }

@@ -21,7 +21,7 @@ pub record IsSlidFramed (framed : FramedDiagram) (result : SlidDiagram) : Type 0
   pub framings : IsFramed result.framed
   pub planar : planar_refusal item_slots result.framed.items ≡ None
   pub leasts : least_labels result.framed.items ≡ least_labels framed.items
-  pub top : top_of result.framed.items ≤ top_of framed.items + 768
+  pub top : top_of result.framed.items ≤ top_of framed.items + 512
 
 abbrev pub SlidIsFramed : Type 0
 SlidIsFramed =

@@ -1,5 +1,6 @@
 mod Examples
 pub mod Cuts
+pub mod FactorSteps
 pub mod FitNets
 pub mod KeptNotes
 pub mod LabelBounds

@@ -1,43 +1,45 @@
 -- What the bytes of an input come to, from what their reading does; that this is one thing, and something, where the shape of text has
--- its two laws; and that diagrams have them.
-use Rattle.std.proofs.Common.{◌≡◌, ◌≤◌, ◌∙◌, inl, inr, ℕ, List, length, Option, Some, Result, Ok, Err, refl, sym, ap, arith}
+-- its two laws; and that each shape has them: its reader's readings do, and each of its faults but want of memory is a refusal.
+use Rattle.std.proofs.Common.{◌≡◌, ◌≢◌, ◌≤◌, ◌∙◌, inl, inr, ℕ, List, length, Option, Some, Result, Ok, Err, refl, sym, ap, arith}
 use Rattle.std.proofs.lemmas.Bool.{cases_lt}
 use Rattle.pd_reader.specs.declared.fault.TextFault.{TextFault}
 use Rattle.pd_reader.specs.declared.fault.TextFault.TheVariants as texts
-use Rattle.pd_reader.specs.Refusals.{IsPdReading, IsPdRefusal, IsNetReading, IsNetRefusal}
-use Rattle.pd_reader.specs.Faults.{IsNamed, cause}
+use Rattle.pd_reader.specs.Faults.{cause, no_memory}
+use Rattle.pd_reader.specs.Refusals.{IsPdReading, IsNetReading}
 use Rattle.pd_reader.proofs.OneReading.{readings_are_unique_lem, readings_exist_lem}
-use Rattle.script_reader.specs.ScriptTexts.{IsScriptReading, IsScriptRefusal}
+use Rattle.script_reader.specs.ScriptTexts.{IsScriptReading}
 use Rattle.script_reader.proofs.OneScriptReading.{script_readings_are_unique, script_readings_exist}
 use Rattle.braid_trace.specs.declared.fault.BraidFault.{BraidFault}
 use Rattle.braid_trace.specs.declared.fault.BraidFault.TheVariants as braids
-use Rattle.braid_trace.specs.Faults.{IsBraidReading, IsBraidRefusal, cause as cause_of_braid}
+use Rattle.braid_trace.specs.Faults.{IsBraidReading}
 use Rattle.braid_trace.proofs.OneReading as braid_readings
 use Rattle.tetra_reader.specs.declared.fault.TetraText.{TetraText}
 use Rattle.tetra_reader.specs.declared.fault.TetraText.TheVariants as tetras
-use Rattle.tetra_reader.specs.Faults.{IsTetraReading, IsTetraRefusal, cause as cause_of_tetra}
+use Rattle.tetra_reader.specs.Faults.{IsTetraReading}
 use Rattle.tetra_reader.proofs.OneReading as tetra_readings
+use Rattle.wrt_commands.specs.declared.input.TheConstants.{MOST_BYTES}
 use Rattle.wrt_commands.specs.declared.refusal.Refusal.{Refusal}
 use Rattle.wrt_commands.specs.declared.refusal.Refusal.TheVariants as refusals
 use Rattle.wrt_commands.specs.declared.stop.Stop.{Stop}
+use Rattle.wrt_commands.specs.declared.text_refusal.Counted.{Counted}
 use Rattle.wrt_commands.specs.declared.text_refusal.Counted.TheVariants.{Items}
 use Rattle.wrt_commands.specs.Inputs.{IsTextOutcome, IsInputOutcome, IsPdOutcome, IsNetTextOutcome, IsScriptTextOutcome, HasOneOutcome, HasOutcome, IsBraidTextOutcome, IsTetraTextOutcome}
 use Rattle.wrt_request.specs.Stages.{after}
 use Rattle.wrt_commands.specs.Stops.{Is, Stops, Answers}
-use Rattle.wrt_commands.specs.TextRefusals.{counted_in, script_text_refusal, stop_of_text, text_refusal}
-use Rattle.wrt_commands.specs.BraidRefusals.{refusal_of_braid, stop_of_braid}
-use Rattle.wrt_commands.specs.TetraRefusals.{refusal_of_tetra, stop_of_tetra}
+use Rattle.wrt_commands.specs.TextRefusals.{counted_in, script_text_refusal, text_refusal}
+use Rattle.wrt_commands.specs.BraidRefusals.{refusal_of_braid}
+use Rattle.wrt_commands.specs.TetraRefusals.{refusal_of_tetra}
 use Rattle.wrt_commands.specs.TooLongRefusals.{past_limit}
 use Rattle.wrt_commands.proofs.StageLemmas.{stops_as, answers_as}
 
 -- ---- any shape
 module _ {A B : Type 0} (is_text : List ℕ → Result A Refusal → Type 0) (next : A → Result B Refusal) (bytes : List ℕ) where
   -- a text that is refused
-  pub text_stops : length bytes ≤ 1048576 → (of stop : Stop) → stop ≡ of → Stops (is_text bytes) of → Stops (IsInputOutcome is_text next bytes) stop
+  pub text_stops : length bytes ≤ MOST_BYTES → (of stop : Stop) → stop ≡ of → Stops (is_text bytes) of → Stops (IsInputOutcome is_text next bytes) stop
   text_stops short = stops_as (is_text bytes) (IsInputOutcome is_text next bytes) (λ refusal h. inr (short, (Err refusal, h, refl)))
 
   -- one that is read
-  pub text_answers : {C : Type 0} (view : C → B) (value : A) → length bytes ≤ 1048576 → is_text bytes (Ok value) → (result : Result C Stop) → Answers (Is (next value)) view result
+  pub text_answers : {C : Type 0} (view : C → B) (value : A) → length bytes ≤ MOST_BYTES → is_text bytes (Ok value) → (result : Result C Stop) → Answers (Is (next value)) view result
       → Answers (IsInputOutcome is_text next bytes) view result
   text_answers view value short read = answers_as (Is (next value)) (IsInputOutcome is_text next bytes) view (λ outcome h. inr (short, (Ok value, read, sym h)))
 
@@ -51,7 +53,7 @@ module _ {A B : Type 0} (is_text : List ℕ → Result A Refusal → Type 0) (ne
   -- and something
   pub some_input : HasOutcome is_text → (outcome : Result B Refusal) × IsInputOutcome is_text next bytes outcome
   some_input some =
-      elim (cases_lt 1048576 (length bytes)) [
+      elim (cases_lt MOST_BYTES (length bytes)) [
         | inl long ↦ (Err (refusals.TooLong past_limit), inl (long, refl))
         | inr fits ↦ (let r = some bytes in (after r.0 next, inr (fits, (r.0, r.1, refl))))
       ]
@@ -75,77 +77,35 @@ module _ {A F : Type 0} (reading : List ℕ → Result A F → Type 0) (refusal_
   text_of_reading told bytes (Ok value) h = (Ok value, h)
   text_of_reading told bytes (Err fault) h = let t = told bytes fault h in (Err t.0, (fault, h, t.1))
 
+-- ---- a fault of a text's reader, but for want of memory, is a refusal
+text_told : (counted : Counted) (fault : TextFault) → cause fault ≢ no_memory → (refusal : Refusal) × (text_refusal counted fault ≡ Some refusal)
+text_told counted (texts.Head at) some = (_, refl)
+text_told counted (texts.Number at) some = (_, refl)
+text_told counted (texts.Text at) some = (_, refl)
+text_told counted (texts.TooMany limit) some = (_, refl)
+text_told counted (texts.Label label count) some = (_, refl)
+text_told counted texts.Memory some = absurd (some refl)
+
 -- ---- diagrams
 pub pd_one_outcome : HasOneOutcome IsPdOutcome
 pd_one_outcome = one_outcome_of_text IsPdReading (text_refusal Items) readings_are_unique_lem.0
 
-pd_told : (bytes : List ℕ) (fault : TextFault) → IsPdReading bytes (Err fault) → (refusal : Refusal) × (text_refusal Items fault ≡ Some refusal)
-pd_told bytes (texts.Head at) h = (_, refl)
-pd_told bytes (texts.Number at) h = (_, refl)
-pd_told bytes (texts.Text at) h = (_, refl)
-pd_told bytes (texts.TooMany limit) h = (_, refl)
-pd_told bytes (texts.Label label count) h = (_, refl)
-pd_told bytes texts.Memory h = absurd (h.0 refl)
-
 pub pd_outcome : HasOutcome IsPdOutcome
-pd_outcome bytes = let r = readings_exist_lem.0 bytes in text_of_reading IsPdReading (text_refusal Items) pd_told bytes r.0 r.1
-
--- a fault of the reader
-pub pd_stops : (bytes : List ℕ) (fault : TextFault) → IsPdRefusal bytes fault → IsNamed bytes (cause fault) → Stops (IsPdOutcome bytes) (stop_of_text Items fault)
-pd_stops bytes (texts.Head at) h named = (texts.Head at, ((λ e. cc), h, named), refl)
-pd_stops bytes (texts.Number at) h named = (texts.Number at, ((λ e. cc), h, named), refl)
-pd_stops bytes (texts.Text at) h named = (texts.Text at, ((λ e. cc), h, named), refl)
-pd_stops bytes (texts.TooMany limit) h named = (texts.TooMany limit, ((λ e. cc), h, named), refl)
-pd_stops bytes (texts.Label label count) h named = (texts.Label label count, ((λ e. cc), h, named), refl)
-pd_stops bytes texts.Memory h named = tt
+pd_outcome bytes = let r = readings_exist_lem.0 bytes in text_of_reading IsPdReading (text_refusal Items) (λ of fault h. text_told Items fault h.0) bytes r.0 r.1
 
 -- ---- nets
 pub net_one_outcome : HasOneOutcome IsNetTextOutcome
 net_one_outcome = one_outcome_of_text IsNetReading (text_refusal Items) readings_are_unique_lem.1
 
-net_told : (bytes : List ℕ) (fault : TextFault) → IsNetReading bytes (Err fault) → (refusal : Refusal) × (text_refusal Items fault ≡ Some refusal)
-net_told bytes (texts.Head at) h = (_, refl)
-net_told bytes (texts.Number at) h = (_, refl)
-net_told bytes (texts.Text at) h = (_, refl)
-net_told bytes (texts.TooMany limit) h = (_, refl)
-net_told bytes (texts.Label label count) h = (_, refl)
-net_told bytes texts.Memory h = absurd (h.0 refl)
-
 pub net_outcome : HasOutcome IsNetTextOutcome
-net_outcome bytes = let r = readings_exist_lem.1 bytes in text_of_reading IsNetReading (text_refusal Items) net_told bytes r.0 r.1
-
--- a fault of the reader
-pub net_stops : (bytes : List ℕ) (fault : TextFault) → IsNetRefusal bytes fault → IsNamed bytes (cause fault) → Stops (IsNetTextOutcome bytes) (stop_of_text Items fault)
-net_stops bytes (texts.Head at) h named = (texts.Head at, ((λ e. cc), h, named), refl)
-net_stops bytes (texts.Number at) h named = (texts.Number at, ((λ e. cc), h, named), refl)
-net_stops bytes (texts.Text at) h named = (texts.Text at, ((λ e. cc), h, named), refl)
-net_stops bytes (texts.TooMany limit) h named = (texts.TooMany limit, ((λ e. cc), h, named), refl)
-net_stops bytes (texts.Label label count) h named = (texts.Label label count, ((λ e. cc), h, named), refl)
-net_stops bytes texts.Memory h named = tt
+net_outcome bytes = let r = readings_exist_lem.1 bytes in text_of_reading IsNetReading (text_refusal Items) (λ of fault h. text_told Items fault h.0) bytes r.0 r.1
 
 -- ---- scripts
 pub script_one_outcome : HasOneOutcome IsScriptTextOutcome
 script_one_outcome = one_outcome_of_text IsScriptReading script_text_refusal script_readings_are_unique
 
-script_told : (bytes : List ℕ) (fault : TextFault) → IsScriptReading bytes (Err fault) → (refused : Refusal) × (script_text_refusal fault ≡ Some refused)
-script_told bytes (texts.Head at) h = (_, refl)
-script_told bytes (texts.Number at) h = (_, refl)
-script_told bytes (texts.Text at) h = (_, refl)
-script_told bytes (texts.TooMany limit) h = (_, refl)
-script_told bytes (texts.Label label count) h = (_, refl)
-script_told bytes texts.Memory h = absurd (h.0 refl)
-
 pub script_outcome : HasOutcome IsScriptTextOutcome
-script_outcome bytes = let r = script_readings_exist bytes in text_of_reading IsScriptReading script_text_refusal script_told bytes r.0 r.1
-
--- a fault of the reader
-pub script_stops : (bytes : List ℕ) (fault : TextFault) → IsScriptRefusal bytes fault → IsNamed bytes (cause fault) → Stops (IsScriptTextOutcome bytes) (stop_of_text (counted_in fault) fault)
-script_stops bytes (texts.Head at) h named = (texts.Head at, ((λ e. cc), h, named), refl)
-script_stops bytes (texts.Number at) h named = (texts.Number at, ((λ e. cc), h, named), refl)
-script_stops bytes (texts.Text at) h named = (texts.Text at, ((λ e. cc), h, named), refl)
-script_stops bytes (texts.TooMany limit) h named = (texts.TooMany limit, ((λ e. cc), h, named), refl)
-script_stops bytes (texts.Label label count) h named = (texts.Label label count, ((λ e. cc), h, named), refl)
-script_stops bytes texts.Memory h named = tt
+script_outcome bytes = let r = script_readings_exist bytes in text_of_reading IsScriptReading script_text_refusal (λ of fault h. text_told (counted_in fault) fault h.0) bytes r.0 r.1
 
 -- ---- braids
 pub braid_one_outcome : HasOneOutcome IsBraidTextOutcome
@@ -163,16 +123,6 @@ braid_told bytes braids.Memory h = absurd (h.0 refl)
 pub braid_outcome : HasOutcome IsBraidTextOutcome
 braid_outcome bytes = let r = braid_readings.readings_exist_lem bytes in text_of_reading IsBraidReading refusal_of_braid braid_told bytes r.0 r.1
 
--- a fault of the reader
-pub braid_stops : (bytes : List ℕ) (fault : BraidFault) → IsBraidRefusal bytes fault → IsNamed bytes (cause_of_braid fault) → Stops (IsBraidTextOutcome bytes) (stop_of_braid fault)
-braid_stops bytes (braids.Head at) h named = (braids.Head at, ((λ e. cc), h, named), refl)
-braid_stops bytes (braids.Number at) h named = (braids.Number at, ((λ e. cc), h, named), refl)
-braid_stops bytes (braids.Text at) h named = (braids.Text at, ((λ e. cc), h, named), refl)
-braid_stops bytes (braids.Strands given) h named = (braids.Strands given, ((λ e. cc), h, named), refl)
-braid_stops bytes (braids.TooMany limit) h named = (braids.TooMany limit, ((λ e. cc), h, named), refl)
-braid_stops bytes (braids.Entry at strands) h named = (braids.Entry at strands, ((λ e. cc), h, named), refl)
-braid_stops bytes braids.Memory h named = tt
-
 -- ---- tetrahedra
 pub tetra_one_outcome : HasOneOutcome IsTetraTextOutcome
 tetra_one_outcome = one_outcome_of_text IsTetraReading refusal_of_tetra tetra_readings.readings_are_unique_lem
@@ -187,12 +137,3 @@ tetra_told bytes tetras.Memory h = absurd (h.0 refl)
 
 pub tetra_outcome : HasOutcome IsTetraTextOutcome
 tetra_outcome bytes = let r = tetra_readings.readings_exist_lem bytes in text_of_reading IsTetraReading refusal_of_tetra tetra_told bytes r.0 r.1
-
--- a fault of the reader
-pub tetra_stops : (bytes : List ℕ) (fault : TetraText) → IsTetraRefusal bytes fault → IsNamed bytes (cause_of_tetra fault) → Stops (IsTetraTextOutcome bytes) (stop_of_tetra fault)
-tetra_stops bytes (tetras.Head at) h named = (tetras.Head at, ((λ e. cc), h, named), refl)
-tetra_stops bytes (tetras.Number at) h named = (tetras.Number at, ((λ e. cc), h, named), refl)
-tetra_stops bytes (tetras.Text at) h named = (tetras.Text at, ((λ e. cc), h, named), refl)
-tetra_stops bytes (tetras.TooMany limit) h named = (tetras.TooMany limit, ((λ e. cc), h, named), refl)
-tetra_stops bytes (tetras.Face tetrahedron) h named = (tetras.Face tetrahedron, ((λ e. cc), h, named), refl)
-tetra_stops bytes tetras.Memory h named = tt

@@ -3,7 +3,7 @@ pub mod InputLemmas
 pub mod ParametersLemmas
 pub mod StatusLemmas
 pub mod DiagramLemmas
-pub mod ColouredLemmas
+pub mod SweptLemmas
 pub mod NetLemmas
 pub mod RunLemmas
 pub mod TaskLemmas

@@ -9,6 +9,7 @@ use Rattle.pd_reader.specs.Torus.{torus_items}
 use Rattle.planar_check.specs.Framings.{FramedDiagram}
 use Rattle.script_reader.specs.ScriptTexts.{ScriptParts, IsScriptReading}
 use Rattle.script_values.specs.Scripts.{script_values}
+use Rattle.script_values.specs.declared.drawing.Drawing.TheVariants as drawings
 use Rattle.script_values.specs.declared.drawing.Drawing.TheVariants.{Framed}
 use Rattle.script_values.specs.declared.fault.ScriptRefusal.{ScriptRefusal}
 use Rattle.skein_network.specs.declared.fault.CableFault.{CableFault}
@@ -19,6 +20,8 @@ use Rattle.wrt_values.specs.Values.{bracket_value}
 use Rattle.wrt_values.specs.declared.fault.ValueRefusal.{ValueRefusal}
 use Rattle.wrt_values.specs.declared.value.Value.{Value}
 use Rattle.wrt_request.specs.Stages.{after}
+use Rattle.wrt_request.specs.declared.request.DiagramValues.{DiagramValues}
+use Rattle.wrt_request.specs.declared.request.DiagramValues.TheVariants.{Brackets, Coloured, Surgery}
 use Rattle.wrt_request.specs.declared.request.Sweep.{Sweep}
 use Rattle.wrt_request.specs.declared.request.Task.{Task}
 use Rattle.wrt_request.specs.declared.request.Task.TheVariants.{Bracket, Colored, Net, Torus, Wrt, Moves, Braid, Tetrahedra}
@@ -150,15 +153,16 @@ played_no_words : (found : Result (List ℕ) ScriptRefusal) → IsNoWords (refus
 played_no_words (Ok residues) = λ words e. absurd (cc)
 played_no_words (Err refusal) = λ words e. absurd (cc)
 
-first_no_words : (framings : Option (List ℤ)) (items : List Item) → IsNoWords (first_drawing framings items)
-first_no_words None items = reported _
-first_no_words (Some framings) items = behind (fit_framings items framings) (λ framed. Ok (Framed framed)) (framings_no_words items framings) (λ framed. reported _)
+first_no_words : (p : Parameters) (values : DiagramValues) (items : List Item) → IsNoWords (first_drawing p values items)
+first_no_words p Brackets items = reported _
+first_no_words p (Coloured colours) items = behind (fit_components p items colours) (λ _. Ok (drawings.Coloured record { items = items; colours = colours })) (fitted _) (λ _. reported _)
+first_no_words p (Surgery framings) items = behind (fit_framings items framings) (λ framed. Ok (Framed framed)) (framings_no_words items framings) (λ framed. reported _)
 
-moves_no_words : (p : Parameters) (framings : Option (List ℤ)) (script : ScriptParts) → IsNoWords (moves_report p framings script)
-moves_no_words p framings script =
-    behind (planar script.diagram) (λ flat. after (first_drawing framings flat) (λ first. after (refused_as Script (script_values p first script.steps)) (λ residues. Ok (lines residues))))
-    (plane_no_words script.diagram) (λ flat. behind (first_drawing framings flat) (λ first. after (refused_as Script (script_values p first script.steps)) (λ residues. Ok (lines residues)))
-    (first_no_words framings flat) (λ first. behind (refused_as Script (script_values p first script.steps)) (λ residues. Ok (lines residues)) (played_no_words _) (λ residues. reported _)))
+moves_no_words : (p : Parameters) (values : DiagramValues) (script : ScriptParts) → IsNoWords (moves_report p values script)
+moves_no_words p values script =
+    behind (planar script.diagram) (λ flat. after (first_drawing p values flat) (λ first. after (refused_as Script (script_values p first script.steps)) (λ residues. Ok (lines residues))))
+    (plane_no_words script.diagram) (λ flat. behind (first_drawing p values flat) (λ first. after (refused_as Script (script_values p first script.steps)) (λ residues. Ok (lines residues)))
+    (first_no_words p values flat) (λ first. behind (refused_as Script (script_values p first script.steps)) (λ residues. Ok (lines residues)) (played_no_words _) (λ residues. reported _)))
 
 -- ---- inputs
 text_no_words : {A F : Type 0} (reading : List ℕ → Result A F → Type 0) (refusal_of : F → Option Refusal) → ((fault : F) (words : WordsRefusal) → refusal_of fault ≡ Some (Words words) → ⊥)
@@ -223,7 +227,7 @@ task_no_words p (Bracket sweep) bytes outcome h = input_no_words IsPdOutcome (di
 task_no_words p (Colored colours sweep) bytes outcome h = input_no_words IsPdOutcome (coloured_report p sweep colours) bytes outcome (pd_no_words bytes) (coloured_no_words p sweep colours) h
 task_no_words p (Net colours sweep) bytes outcome h = input_no_words IsNetTextOutcome (net_report p sweep colours) bytes outcome (net_text_no_words bytes) (net_no_words p sweep colours) h
 task_no_words p (Torus crossings sweep) bytes outcome h = λ words e. diagram_no_words p sweep (torus_items crossings) words (h ∙ e)
-task_no_words p (Moves framings) bytes outcome h = input_no_words IsScriptTextOutcome (moves_report p framings) bytes outcome (script_text_no_words bytes) (moves_no_words p framings) h
+task_no_words p (Moves values) bytes outcome h = input_no_words IsScriptTextOutcome (moves_report p values) bytes outcome (script_text_no_words bytes) (moves_no_words p values) h
 task_no_words p (Wrt framings workers even sweep) bytes outcome h =
     input_no_words IsPdOutcome (surgery_report p sweep (framing_list framings)) bytes outcome (pd_no_words bytes) (surgery_no_words p sweep (framing_list framings)) h
 task_no_words p Braid bytes outcome h = input_no_words IsBraidTextOutcome (braid_report p) bytes outcome (braid_no_words bytes) (λ braid. reported _) h

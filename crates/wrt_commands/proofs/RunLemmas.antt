@@ -7,6 +7,7 @@ use Rattle.skein_io.specs.declared.writing.Wrote.{Wrote}
 use Rattle.skein_io.specs.declared.writing.Wrote.TheVariants.{Fault}
 use Rattle.root_quantum.specs.Parameters.{Parameters}
 use Rattle.wrt_request.specs.declared.request.Task.{Task}
+use Rattle.wrt_commands.specs.declared.input.TheConstants.{MOST_BYTES}
 use Rattle.wrt_commands.specs.declared.opening.Opened.{Opened}
 use Rattle.wrt_commands.specs.declared.refusal.Refusal.{Refusal}
 use Rattle.wrt_commands.specs.declared.refusal.Refusal.TheVariants as refusals
@@ -45,7 +46,7 @@ task_stopped p task bytes Memory h = tt
 
 -- an input that isn't read whole
 input_stopped_at : (at : Result Opened Refusal) (left : Option (List ℕ)) (stop : Stop) → IsUnread left stop → reads_input at ≡ true
-    → ((bytes : List ℕ) → 1048576 < length bytes → IsOutcomeAt at bytes (Err (refusals.TooLong past_limit)))
+    → ((bytes : List ℕ) → MOST_BYTES < length bytes → IsOutcomeAt at bytes (Err (refusals.TooLong past_limit)))
     → (bytes : List ℕ) × IsTold left bytes × IsStoppedAt at bytes stop
 input_stopped_at at left (Refused refusal) h reads long =
     let P : Refusal → Type 0 = λ r. IsOutcomeAt at h.0 (Err r) in (h.0, h.1, subst P (sym h.3) (long h.0 h.2))
@@ -53,7 +54,7 @@ input_stopped_at at left ReadFault h reads long = let b = some_bytes left in (b.
 input_stopped_at at left Memory h reads long = let b = some_bytes left in (b.0, b.1, tt)
 
 pub input_stopped : (at : Result Opened Refusal) (left : Option (List ℕ)) (of stop : Stop) → stop ≡ of → IsUnread left of → reads_input at ≡ true
-    → ((bytes : List ℕ) → 1048576 < length bytes → IsOutcomeAt at bytes (Err (refusals.TooLong past_limit)))
+    → ((bytes : List ℕ) → MOST_BYTES < length bytes → IsOutcomeAt at bytes (Err (refusals.TooLong past_limit)))
     → (bytes : List ℕ) × IsTold left bytes × IsStoppedAt at bytes stop
 input_stopped at left of stop same h reads long =
     let P : Stop → Type 0 = λ s. (bytes : List ℕ) × IsTold left bytes × IsStoppedAt at bytes s in

@@ -71,7 +71,7 @@ AreLinesOf p (Colored colours sweep) bytes lines = IsLineOf IsPdOutcome (λ item
 AreLinesOf p (Net colours sweep) bytes lines = IsLineOf IsNetTextOutcome (λ items. coloured_net p items (net_colour items colours)) bytes lines
 AreLinesOf p (Torus crossings sweep) bytes lines = lines ≡ line_of (bracket p (torus_items crossings))
 AreLinesOf p (Wrt framings workers even sweep) bytes lines = IsLineOf IsPdOutcome (λ items. surgery p (record { items = items; framings = framing_list framings })) bytes lines
-AreLinesOf p (Moves framings) bytes lines = IsMovesOutcome p framings bytes (Ok lines)
+AreLinesOf p (Moves values) bytes lines = IsMovesOutcome p values bytes (Ok lines)
 AreLinesOf p Braid bytes lines = IsLineOf IsBraidTextOutcome (λ braid. bracket p (closed braid)) bytes lines
 AreLinesOf p Tetrahedra bytes lines = IsLineOf IsTetraTextOutcome (weight_sum p) bytes lines
 
@@ -86,7 +86,7 @@ lines_of p (Torus crossings sweep) bytes report h =
 lines_of p (Wrt framings workers even sweep) bytes report h =
     let list = framing_list framings in
     line_of_text IsPdOutcome (λ items. surgery p (record { items = items; framings = list })) (surgery_report p sweep list) (reports_are_of_surgery_values_law p sweep list) bytes report h
-lines_of p (Moves framings) bytes report h = (report, h, without_turns report)
+lines_of p (Moves values) bytes report h = (report, h, without_turns report)
 lines_of p Braid bytes report h = line_of_text IsBraidTextOutcome (λ braid. bracket p (closed braid)) (braid_report p) (reports_are_of_braid_traces_law p) bytes report h
 lines_of p Tetrahedra bytes report h = line_of_text IsTetraTextOutcome (weight_sum p) (tetra_report p) (reports_are_of_tetrahedra_law p) bytes report h
 
@@ -96,7 +96,7 @@ of_plain p (Colored colours sweep) bytes lines h = h
 of_plain p (Net colours sweep) bytes lines h = h
 of_plain p (Torus crossings sweep) bytes lines h = h
 of_plain p (Wrt framings workers even sweep) bytes lines h = h
-of_plain p (Moves framings) bytes lines h = h
+of_plain p (Moves values) bytes lines h = h
 of_plain p Braid bytes lines h = h
 of_plain p Tetrahedra bytes lines h = h
 
@@ -107,8 +107,8 @@ same_lines p (Net colours sweep) bytes a b h k = one_line IsNetTextOutcome (λ i
 same_lines p (Torus crossings sweep) bytes a b h k = h ∙ sym k
 same_lines p (Wrt framings workers even sweep) bytes a b h k =
     one_line IsPdOutcome (λ items. surgery p (record { items = items; framings = framing_list framings })) pd_one_outcome bytes a b h k
-same_lines p (Moves framings) bytes a b h k =
-    let e = one_input IsScriptTextOutcome (moves_report p framings) bytes script_one_outcome (Ok a) (Ok b) h k in cc
+same_lines p (Moves values) bytes a b h k =
+    let e = one_input IsScriptTextOutcome (moves_report p values) bytes script_one_outcome (Ok a) (Ok b) h k in cc
 same_lines p Braid bytes a b h k = one_line IsBraidTextOutcome (λ braid. bracket p (closed braid)) braid_one_outcome bytes a b h k
 same_lines p Tetrahedra bytes a b h k = one_line IsTetraTextOutcome (weight_sum p) tetra_one_outcome bytes a b h k
 

@@ -18,6 +18,7 @@ use Rattle.script_values.specs.declared.fault.ScriptFault.TheVariants as scripts
 use Rattle.script_values.specs.declared.fault.ScriptRefusal.{ScriptRefusal}
 use Rattle.root_quantum.specs.Parameters.{Parameters}
 use Rattle.wrt_request.specs.Stages.{after}
+use Rattle.wrt_request.specs.declared.request.DiagramValues.{DiagramValues}
 use Rattle.wrt_commands.specs.declared.refusal.Refusal.{Refusal}
 use Rattle.wrt_commands.specs.declared.refusal.Refusal.TheVariants.{Script}
 use Rattle.wrt_commands.specs.declared.stop.Stop.{Stop}
@@ -56,25 +57,25 @@ script_stopped : (found : Result (List ℕ) ScriptRefusal) (next : List ℕ → 
 script_stopped found next (scripts.Refused refusal) h = rw h refl
 script_stopped found next scripts.Memory h = tt
 
-module _ (p : Parameters) (framings : Option (List ℤ)) (script : ScriptParts) (flat : List Item) (first : Drawing) (is_flat : planar script.diagram ≡ Ok flat)
-    (is_first : first_drawing framings flat ≡ Ok first) where
+module _ (p : Parameters) (values : DiagramValues) (script : ScriptParts) (flat : List Item) (first : Drawing) (is_flat : planar script.diagram ≡ Ok flat)
+    (is_first : first_drawing p values flat ≡ Ok first) where
   abbrev with_lines : List ℕ → Result (List ℕ) Refusal
   with_lines residues = Ok (lines residues)
 
   abbrev with_first : List Step → Drawing → Result (List ℕ) Refusal
   with_first steps drawing = after (refused_as Script (script_values p drawing steps)) with_lines
 
-  behind : (steps : List Step) → steps ≡ script.steps → moves_report p framings script ≡ with_first steps first
+  behind : (steps : List Step) → steps ≡ script.steps → moves_report p values script ≡ with_first steps first
   behind steps same =
-      ap (λ plane. after plane (λ seen. after (first_drawing framings seen) (with_first script.steps))) is_flat ∙ ap (λ found. after found (with_first script.steps)) is_first
+      ap (λ plane. after plane (λ seen. after (first_drawing p values seen) (with_first script.steps))) is_flat ∙ ap (λ found. after found (with_first script.steps)) is_first
       ∙ ap (λ made. with_first made first) (sym same)
 
   pub script_fails : (steps : List Step) → steps ≡ script.steps → (fault : ScriptFault) (stop : Stop) → stop ≡ stop_of_script fault → Fails (script_values p first steps) fault
-      → Stops (Is (moves_report p framings script)) stop
+      → Stops (Is (moves_report p values script)) stop
   script_fails steps same fault stop told h =
       let Q : Result (List ℕ) Refusal → Type 0 = λ report. Stops (Is report) stop in
       let T : Stop → Type 0 = λ s. Stops (Is (with_first steps first)) s in
       subst Q (sym (behind steps same)) (subst T (sym told) (script_stopped (script_values p first steps) with_lines fault h))
 
-  pub script_reports : (steps : List Step) → steps ≡ script.steps → (residues bytes : List ℕ) → script_values p first steps ≡ Ok residues → bytes ≡ lines residues → moves_report p framings script ≡ Ok bytes
+  pub script_reports : (steps : List Step) → steps ≡ script.steps → (residues bytes : List ℕ) → script_values p first steps ≡ Ok residues → bytes ≡ lines residues → moves_report p values script ≡ Ok bytes
   script_reports steps same residues bytes h e = behind steps same ∙ ap (λ found. after (refused_as Script found) with_lines) h ∙ ap Ok (sym e)

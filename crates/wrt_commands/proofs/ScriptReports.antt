@@ -4,7 +4,7 @@ use Rattle.std.specs.Prelude.{option_map}
 use Rattle.std.specs.List.{All, AllByRecursion, position, position_or_len, prefix_len}
 use Rattle.std.proofs.lemmas.Bool.Decides.{nat_tests}
 use Rattle.std.proofs.lemmas.List.Elements.{All-cons, All-nil}
-use Rattle.root_quantum.specs.Parameters.{Parameters}
+use Rattle.root_quantum.specs.Parameters.{Parameters, top_colour}
 use Rattle.pd_reader.specs.declared.fault.DiagramFault.{DiagramFault}
 use Rattle.pd_reader.specs.declared.fault.DiagramFault.TheVariants as faults
 use Rattle.pd_reader.specs.declared.item.Item.{Item}
@@ -20,14 +20,22 @@ use Rattle.planar_check.specs.Places.{item_slots, slot_lists}
 use Rattle.planar_check.specs.Planar.{face_count, wanted_faces}
 use Rattle.script_reader.specs.ScriptTexts.{ScriptParts, script_refusal}
 use Rattle.script_values.specs.declared.drawing.Drawing.{Drawing}
+use Rattle.script_values.specs.Colours.{ColouredDiagram}
+use Rattle.script_values.specs.declared.drawing.Drawing.TheVariants as drawings
 use Rattle.script_values.specs.declared.drawing.Drawing.TheVariants.{Plain, Framed}
 use Rattle.script_values.specs.declared.fault.ScriptRefusal.{ScriptRefusal}
 use Rattle.script_values.specs.Scripts.{script_values}
 use Rattle.script_lines.proofs.BracketLines.{bracket_lines_law}
+use Rattle.script_lines.proofs.ColouredLines.{coloured_lines_law}
 use Rattle.script_lines.proofs.SurgeryLines.{surgery_lines_law}
+use Rattle.skein_network.specs.Refusals.{first_above, colour_refusal}
+use Rattle.skein_network.specs.declared.fault.CableFault.TheVariants.{ColourCount, ColourTooLarge}
 use Rattle.wrt_request.specs.Stages.{after}
+use Rattle.wrt_request.specs.declared.request.DiagramValues.{DiagramValues}
+use Rattle.wrt_request.specs.declared.request.DiagramValues.TheVariants.{Brackets, Coloured, Surgery}
 use Rattle.wrt_commands.specs.declared.refusal.Refusal.{Refusal}
 use Rattle.wrt_commands.specs.declared.refusal.Refusal.TheVariants.{Script}
+use Rattle.wrt_commands.specs.ColourFits.{fit_components, fits}
 use Rattle.wrt_commands.specs.DiagramReports.{planar}
 use Rattle.wrt_commands.specs.FramingFits.{against_size, fit_framings}
 use Rattle.wrt_commands.specs.Inputs.{IsScriptTextOutcome}
@@ -51,6 +59,16 @@ flat_Ok all flat h = cases (face_count (slot_lists item_slots all) == wanted_fac
     cases : (same : Bool) (refused : Refusal) → ◌≡◌ {A = Result (List Item) Refusal} (cond same (Ok all) (Err refused)) (Ok flat) → flat ≡ all
     cases true refused e = cc
     cases false refused e = absurd (cc)
+
+-- ---- colours that fit
+fitting : (top wanted : ℕ) (colours : List ℕ) → fits (colour_refusal top wanted colours) ≡ Ok tt → colour_refusal top wanted colours ≡ None
+fitting top wanted colours h = cases (length colours == wanted) (first_above top colours) h
+  where
+    cases : (same : Bool) (above : Option ℕ) → fits (cond same (option_map (λ colour. ColourTooLarge colour top) above) (Some (ColourCount (length colours) wanted))) ≡ Ok tt
+        → cond same (option_map (λ colour. ColourTooLarge colour top) above) (Some (ColourCount (length colours) wanted)) ≡ None
+    cases true None e = refl
+    cases true (Some colour) e = absurd (cc)
+    cases false above e = absurd (cc)
 
 -- ---- framings that fit
 abbrev IsSmall : ℤ → Type 0
@@ -108,14 +126,24 @@ of_limits script are none = cases (nat_le (length script.diagram) 256 && nat_lt 
         record { diagram = is; steps = grind (arith, nat_tests, e, few) }
 
 -- ---- the report
-lines_of : (p : Parameters) (framings : Option (List ℤ)) (script : ScriptParts) (first : Drawing) (residues : List ℕ) → AllByRecursion IsTextItem script.diagram → IsScriptOfText script
-    → first_drawing framings script.diagram ≡ Ok first → script_values p first script.steps ≡ Ok residues → AreScriptLines p framings script residues
-lines_of p None script first residues are is e h =
+lines_of : (p : Parameters) (values : DiagramValues) (script : ScriptParts) (first : Drawing) (residues : List ℕ) → AllByRecursion IsTextItem script.diagram → IsScriptOfText script
+    → first_drawing p values script.diagram ≡ Ok first → script_values p first script.steps ≡ Ok residues → AreScriptLines p values script residues
+lines_of p Brackets script first residues are is e h =
     let f : ◌≡◌ {A = Result Drawing Refusal} (Ok (Plain script.diagram)) (Ok first) = e in
     let same : first ≡ Plain script.diagram = cc in
     let paired = is.diagram in
     bracket_lines_law p script.diagram script.steps residues (record { sizes = paired.sizes; twice = paired.twice }) (subst (λ (d : Drawing). script_values p d script.steps ≡ Ok residues) same h)
-lines_of p (Some framings) script first residues are is e h =
+lines_of p (Coloured colours) script first residues are is e h =
+    let drawn : ColouredDiagram = record { items = script.diagram; colours = colours } in
+    let fit = after_Ok (fit_components p script.diagram colours) (λ _. Ok (drawings.Coloured drawn)) first e in
+    let f : ◌≡◌ {A = Result Drawing Refusal} (Ok (drawings.Coloured drawn)) (Ok first) = fit.2 in
+    let same : first ≡ drawings.Coloured drawn = cc in
+    let low = text_labels script.diagram are in
+    let few = is.steps in
+    coloured_lines_law p drawn script.steps residues
+    (record { diagram = is.diagram; fit = fitting (top_colour p) (length (least_labels script.diagram)) colours fit.1; room = omega (arith, low, few) })
+    (subst (λ (d : Drawing). script_values p d script.steps ≡ Ok residues) same h)
+lines_of p (Surgery framings) script first residues are is e h =
     let one : FramedDiagram = record { items = script.diagram; framings = framings } in
     let fit = after_Ok (fit_framings script.diagram framings) (λ framed. Ok (Framed framed)) first e in
     let framed = framed_Ok script.diagram framings fit.0 fit.1 in
@@ -126,26 +154,26 @@ lines_of p (Some framings) script first residues are is e h =
     surgery_lines_law p one script.steps residues (record { diagram = is.diagram; framings = framed.1; room = omega (arith, low, few) })
     (subst (λ (d : Drawing). script_values p d script.steps ≡ Ok residues) (same ∙ ap Framed framed.0) h)
 
-report_of_script : (p : Parameters) (framings : Option (List ℤ)) (script : ScriptParts) (report : List ℕ) → AllByRecursion IsTextItem script.diagram → IsScriptOfText script
-    → moves_report p framings script ≡ Ok report → IsScriptReport p framings script report
-report_of_script p framings script report are is h =
+report_of_script : (p : Parameters) (values : DiagramValues) (script : ScriptParts) (report : List ℕ) → AllByRecursion IsTextItem script.diagram → IsScriptOfText script
+    → moves_report p values script ≡ Ok report → IsScriptReport p values script report
+report_of_script p values script report are is h =
     let plane = after_Ok (planar script.diagram) _ report h in
-    let first = after_Ok (first_drawing framings plane.0) _ report plane.2 in
+    let first = after_Ok (first_drawing p values plane.0) _ report plane.2 in
     let valued = after_Ok (refused_as Script (script_values p first.0 script.steps)) (λ residues. Ok (lines residues)) report first.2 in
     let told : ◌≡◌ {A = Result (List ℕ) Refusal} (Ok (lines valued.0)) (Ok report) = valued.2 in
-    let drawn = subst (λ (all : List Item). first_drawing framings all ≡ Ok first.0) (flat_Ok script.diagram plane.0 plane.1) first.1 in
+    let drawn = subst (λ (all : List Item). first_drawing p values all ≡ Ok first.0) (flat_Ok script.diagram plane.0 plane.1) first.1 in
     record {
       residues = valued.0;
       told = cc;
-      follow = lines_of p framings script first.0 valued.0 are is drawn (script_Ok (script_values p first.0 script.steps) valued.0 valued.1);
+      follow = lines_of p values script first.0 valued.0 are is drawn (script_Ok (script_values p first.0 script.steps) valued.0 valued.1);
     }
 
 -- A REPORT OF A SCRIPT HAS ITS LINES
 pub reports_are_of_scripts_law : ReportsAreOfScripts
-reports_are_of_scripts_law p framings bytes report (inl long) = let e = long.1 in absurd (cc)
-reports_are_of_scripts_law p framings bytes report (inr read) = go read.1.0 read.1.1 read.1.2
+reports_are_of_scripts_law p values bytes report (inl long) = let e = long.1 in absurd (cc)
+reports_are_of_scripts_law p values bytes report (inr read) = go read.1.0 read.1.1 read.1.2
   where
-    go : (text : Result ScriptParts Refusal) → IsScriptTextOutcome bytes text → Ok report ≡ after text (moves_report p framings) → (script : ScriptParts) × IsScriptTextOutcome bytes (Ok script) × IsScriptReport p framings script report
+    go : (text : Result ScriptParts Refusal) → IsScriptTextOutcome bytes text → Ok report ≡ after text (moves_report p values) → (script : ScriptParts) × IsScriptTextOutcome bytes (Ok script) × IsScriptReport p values script report
     go (Ok script) spelled e =
-        let are = spelled.0.0.are_items in (script, spelled, report_of_script p framings script report are (of_limits script are spelled.1) (sym e))
+        let are = spelled.0.0.are_items in (script, spelled, report_of_script p values script report are (of_limits script are spelled.1) (sym e))
     go (Err refused) spelled e = absurd (cc)

@@ -4,8 +4,8 @@ use Rattle.wrt_values.specs.declared.fault.ValueRefusal.{ValueRefusal}
 use Rattle.wrt_values.specs.declared.fault.ValueRefusal.TheVariants as values
 use Rattle.script_values.specs.declared.fault.ScriptRefusal.{ScriptRefusal}
 use Rattle.script_values.specs.declared.fault.ScriptRefusal.TheVariants as scripts
-use Rattle.script_values.specs.declared.move_refusal.MoveRefusal.{MoveRefusal}
-use Rattle.script_values.specs.declared.move_refusal.MoveRefusal.TheVariants as moves
+use Rattle.script_values.specs.declared.step_refusal.StepRefusal.{StepRefusal}
+use Rattle.script_values.specs.declared.step_refusal.StepRefusal.TheVariants as steps
 use Rattle.wrt_commands.specs.declared.refusal.Refusal.{Refusal}
 use Rattle.wrt_commands.specs.declared.refusal.Refusal.TheVariants.{Words, Parameters, TooLong, Text, Plane, Arguments, Value, Script, Braid, Tetra}
 use Rattle.wrt_commands.specs.declared.braid_refusal.BraidRefusal.TheVariants as braids
@@ -16,7 +16,7 @@ use Rattle.wrt_commands.specs.declared.text_refusal.TextRefusal.TheVariants as t
 use Rattle.wrt_commands.specs.declared.stop.Stop.{Stop}
 use Rattle.wrt_commands.specs.declared.stop.Stop.TheVariants.{Refused, ReadFault, Memory}
 use Rattle.wrt_commands.specs.Refusals.{status_of}
-use Rattle.wrt_commands.specs.ScriptRefusals.{status_of_move, status_of_script}
+use Rattle.wrt_commands.specs.ScriptRefusals.{status_of_step, status_of_script}
 use Rattle.wrt_commands.specs.ValueRefusals.{status_of_value}
 use Rattle.wrt_commands.specs.Stops.{status_of_stop}
 
@@ -39,20 +39,25 @@ value_status (values.Wide step ends) = refl
 value_status (values.Table step) = refl
 value_status (values.NoOmegaInverse sign common) = refl
 
-move_status : (refusal : MoveRefusal) → is_refused (status_of_move refusal) ≡ true
-move_status (moves.NoEdge edge) = refl
-move_status (moves.NoCrossing crossing) = refl
-move_status moves.SameEdge = refl
-move_status (moves.LoopEdge edge) = refl
-move_status moves.NotSameFace = refl
-move_status moves.NotBigon = refl
-move_status moves.NotTriangle = refl
-move_status moves.NotCurl = refl
-move_status (moves.TooMany limit) = refl
-move_status (moves.NotPlanar faces wanted) = refl
+step_status : (refusal : StepRefusal) → is_refused (status_of_step refusal) ≡ true
+step_status (steps.NoEdge edge) = refl
+step_status (steps.NoCrossing crossing) = refl
+step_status steps.SameEdge = refl
+step_status (steps.LoopEdge edge) = refl
+step_status steps.NotSameFace = refl
+step_status steps.NotBigon = refl
+step_status steps.NotTriangle = refl
+step_status steps.NotCurl = refl
+step_status (steps.TooMany limit) = refl
+step_status (steps.NotPlanar faces wanted) = refl
+step_status (steps.AnchorInside component) = refl
+step_status steps.SlideNeedsFramings = refl
+step_status steps.SameComponent = refl
+step_status (steps.OddSigns first second) = refl
+step_status (steps.FramingSize component) = refl
 
 script_status : (refusal : ScriptRefusal) → is_refused (status_of_script refusal) ≡ true
-script_status (scripts.Step step reason) = move_status reason
+script_status (scripts.Step step reason) = step_status reason
 script_status (scripts.Line line reason) = value_status reason
 
 pub refused_status : (refusal : Refusal) → is_refused (status_of refusal) ≡ true

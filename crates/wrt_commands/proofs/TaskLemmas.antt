@@ -1,9 +1,11 @@
 -- The answers of the commands as answers of a task.
 use Rattle.std.proofs.Common.{String, Global, ◌≡◌, ◌∙◌, ◌<◌, inl, ℕ, ℤ, Bool, List, length, true, Option, Result, Ok, Err, refl, sym, ap, subst}
 use Rattle.std.specs.Prelude.{MatchResult, string_bytes}
+use Rattle.wrt_request.specs.declared.request.DiagramValues.{DiagramValues}
 use Rattle.wrt_request.specs.declared.request.Sweep.{Sweep}
 use Rattle.wrt_request.specs.declared.request.Task.{Task}
 use Rattle.wrt_request.specs.declared.request.Task.TheVariants.{Bracket, Colored, Net, Wrt, Moves, Braid, Tetrahedra}
+use Rattle.wrt_commands.specs.declared.input.TheConstants.{MOST_BYTES}
 use Rattle.wrt_commands.specs.declared.opening.Opened.{Opened}
 use Rattle.wrt_commands.specs.declared.refusal.Refusal.TheVariants as refusals
 use Rattle.wrt_commands.specs.declared.stop.Stop.{Stop}
@@ -24,7 +26,7 @@ module _ (asked : Opened) where
       let P : Task → Type 0 = λ t. Stops (IsTaskOutcome asked.params t bytes) stop in task_stopped asked.params asked.task bytes stop (subst P (sym is) h)
 
   -- a task about an input that isn't read whole
-  unread_task : (task : Task) → is_about_input task ≡ true → ((bytes : List ℕ) → 1048576 < length bytes → IsTaskOutcome asked.params task bytes (Err (refusals.TooLong past_limit)))
+  unread_task : (task : Task) → is_about_input task ≡ true → ((bytes : List ℕ) → MOST_BYTES < length bytes → IsTaskOutcome asked.params task bytes (Err (refusals.TooLong past_limit)))
       → (left : Option (List ℕ)) (of stop : Stop) → asked.task ≡ task → stop ≡ of → IsUnread left of → (bytes : List ℕ) × IsTold left bytes × IsStoppedAt (Ok asked) bytes stop
   unread_task task about long left of stop is same h =
       let P : List ℕ → Task → Type 0 = λ bytes t. IsTaskOutcome asked.params t bytes (Err (refusals.TooLong past_limit)) in
@@ -46,9 +48,9 @@ module _ (asked : Opened) where
       → (bytes : List ℕ) × IsTold left bytes × IsStoppedAt (Ok asked) bytes stop
   wrt_stopped framings workers even sweep = unread_task (Wrt framings workers even sweep) refl (λ bytes long. inl (long, refl))
 
-  pub moves_stopped : (framings : Option (List ℤ)) (left : Option (List ℕ)) (of stop : Stop) → asked.task ≡ Moves framings → stop ≡ of → IsUnread left of
+  pub moves_stopped : (values : DiagramValues) (left : Option (List ℕ)) (of stop : Stop) → asked.task ≡ Moves values → stop ≡ of → IsUnread left of
       → (bytes : List ℕ) × IsTold left bytes × IsStoppedAt (Ok asked) bytes stop
-  moves_stopped framings = unread_task (Moves framings) refl (λ bytes long. inl (long, refl))
+  moves_stopped values = unread_task (Moves values) refl (λ bytes long. inl (long, refl))
 
   pub braid_stopped : (left : Option (List ℕ)) (of stop : Stop) → asked.task ≡ Braid → stop ≡ of → IsUnread left of
       → (bytes : List ℕ) × IsTold left bytes × IsStoppedAt (Ok asked) bytes stop

@@ -27,7 +27,7 @@ one_of_task p (Colored colours sweep) bytes x y h k = one_input IsPdOutcome (col
 one_of_task p (Net colours sweep) bytes x y h k = one_input IsNetTextOutcome (net_report p sweep colours) bytes net_one_outcome x y h k
 one_of_task p (Torus crossings sweep) bytes x y h k = sym h ∙ k
 one_of_task p (Wrt framings workers even sweep) bytes x y h k = one_input IsPdOutcome (surgery_report p sweep (framing_list framings)) bytes pd_one_outcome x y h k
-one_of_task p (Moves framings) bytes x y h k = one_input IsScriptTextOutcome (moves_report p framings) bytes script_one_outcome x y h k
+one_of_task p (Moves values) bytes x y h k = one_input IsScriptTextOutcome (moves_report p values) bytes script_one_outcome x y h k
 one_of_task p Braid bytes x y h k = one_input IsBraidTextOutcome (braid_report p) bytes braid_one_outcome x y h k
 one_of_task p Tetrahedra bytes x y h k = one_input IsTetraTextOutcome (tetra_report p) bytes tetra_one_outcome x y h k
 
@@ -45,7 +45,7 @@ of_task p (Colored colours sweep) bytes = some_input IsPdOutcome (coloured_repor
 of_task p (Net colours sweep) bytes = some_input IsNetTextOutcome (net_report p sweep colours) bytes net_outcome
 of_task p (Torus crossings sweep) bytes = (torus_outcome p crossings sweep, refl)
 of_task p (Wrt framings workers even sweep) bytes = some_input IsPdOutcome (surgery_report p sweep (framing_list framings)) bytes pd_outcome
-of_task p (Moves framings) bytes = some_input IsScriptTextOutcome (moves_report p framings) bytes script_outcome
+of_task p (Moves values) bytes = some_input IsScriptTextOutcome (moves_report p values) bytes script_outcome
 of_task p Braid bytes = some_input IsBraidTextOutcome (braid_report p) bytes braid_outcome
 of_task p Tetrahedra bytes = some_input IsTetraTextOutcome (tetra_report p) bytes tetra_outcome
 
@@ -64,7 +64,7 @@ unread_task p (Colored colours sweep) bytes other outcome unread h = absurd (cc)
 unread_task p (Net colours sweep) bytes other outcome unread h = absurd (cc)
 unread_task p (Torus crossings sweep) bytes other outcome unread h = h
 unread_task p (Wrt framings workers even sweep) bytes other outcome unread h = absurd (cc)
-unread_task p (Moves framings) bytes other outcome unread h = absurd (cc)
+unread_task p (Moves values) bytes other outcome unread h = absurd (cc)
 unread_task p Braid bytes other outcome unread h = absurd (cc)
 unread_task p Tetrahedra bytes other outcome unread h = absurd (cc)
 

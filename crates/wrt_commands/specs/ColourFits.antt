@@ -16,7 +16,7 @@ use Rattle.wrt_commands.specs.declared.arguments_refusal.ArgumentsRefusal.TheVar
 use Rattle.wrt_commands.specs.declared.refusal.Refusal.{Refusal}
 use Rattle.wrt_commands.specs.declared.refusal.Refusal.TheVariants.{Arguments, Value}
 use Rattle.wrt_commands.specs.declared.stop.Stop.{Stop}
-use Rattle.wrt_commands.specs.declared.stop.Stop.TheVariants.{Refused, Memory}
+use Rattle.wrt_commands.specs.TextRefusals.{stop_of}
 
 -- The refusal of the run for a fault of a cable.
 abbrev pub refusal_of_cable : CableFault → Option Refusal
@@ -27,13 +27,9 @@ refusal_of_cable (faults.NotAdmissible vertex) = Some (Arguments (NotAdmissible 
 refusal_of_cable (faults.NoInverse index common) = Some (Value (NoInverse index common))
 refusal_of_cable faults.Memory = None
 
-abbrev pub stop_of_refusal : Option Refusal → Stop
-stop_of_refusal (Some refusal) = Refused refusal
-stop_of_refusal None = Memory
-
 -- The stop for such a fault: a refusal, or want of memory.
 abbrev pub stop_of_cable : CableFault → Stop
-stop_of_cable fault = stop_of_refusal (refusal_of_cable fault)
+stop_of_cable fault = stop_of (refusal_of_cable fault)
 
 -- No refusal, or one.
 abbrev pub against : Option Refusal → Result (Unit {0}) Refusal

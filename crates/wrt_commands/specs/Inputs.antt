@@ -19,6 +19,7 @@ use Rattle.pd_reader.specs.Refusals.{IsPdReading, IsNetReading}
 use Rattle.tetra_reader.specs.declared.item.TetraItem.{TetraItem}
 use Rattle.tetra_reader.specs.Faults.{IsTetraReading}
 use Rattle.script_reader.specs.ScriptTexts.{ScriptParts, IsScriptReading}
+use Rattle.wrt_commands.specs.declared.input.TheConstants.{MOST_BYTES}
 use Rattle.wrt_commands.specs.declared.refusal.Refusal.{Refusal}
 use Rattle.wrt_commands.specs.declared.refusal.Refusal.TheVariants.{TooLong}
 use Rattle.wrt_commands.specs.declared.text_refusal.Counted.TheVariants.{Items}
@@ -40,8 +41,8 @@ IsTextOutcome reading refusal_of bytes (Err refusal) = IsRefusedText reading ref
 -- What the bytes come to.
 abbrev pub IsInputOutcome : {A B : Type 0} → (List ℕ → Result A Refusal → Type 0) → (A → Result B Refusal) → List ℕ → Result B Refusal → Type 0
 IsInputOutcome {A = A} is_text next bytes outcome =
-    ((1048576 < length bytes) × (outcome ≡ Err (TooLong past_limit)))
-    ⊎ ((length bytes ≤ 1048576) × ((read : Result A Refusal) × is_text bytes read × (outcome ≡ after read next)))
+    ((MOST_BYTES < length bytes) × (outcome ≡ Err (TooLong past_limit)))
+    ⊎ ((length bytes ≤ MOST_BYTES) × ((read : Result A Refusal) × is_text bytes read × (outcome ≡ after read next)))
 
 -- ---- the laws of a shape
 abbrev pub HasOneOutcome : {A : Type 0} → (List ℕ → Result A Refusal → Type 0) → Type 0

@@ -23,10 +23,12 @@ use Rattle.coloured_values.specs.Coloured.{coloured}
 use Rattle.coloured_values.specs.Surgery.{surgery}
 use Rattle.skein_network.specs.Refusals.{net_colour}
 use Rattle.script_reader.specs.ScriptTexts.{ScriptParts}
-use Rattle.script_lines.specs.Laws.{AreBracketLines, AreSurgeryLines}
+use Rattle.script_lines.specs.Laws.{AreBracketLines, AreColouredLines, AreSurgeryLines}
 use Rattle.tetra_reader.specs.declared.item.TetraItem.{TetraItem}
 use Rattle.tetra_sum.specs.Sums.{weight_sum}
 use Rattle.wrt_request.specs.declared.order.OrderWord.TheVariants.{Listed}
+use Rattle.wrt_request.specs.declared.request.DiagramValues.{DiagramValues}
+use Rattle.wrt_request.specs.declared.request.DiagramValues.TheVariants.{Brackets, Coloured, Surgery}
 use Rattle.wrt_request.specs.declared.request.Sweep.{Sweep}
 use Rattle.wrt_request.specs.declared.request.Task.{Task}
 use Rattle.wrt_request.specs.declared.request.Task.TheVariants.{Bracket, Colored, Net, Torus, Wrt, Moves, Braid, Tetrahedra}
@@ -81,22 +83,24 @@ ReportsAreOfNetValues =
 abbrev pub ReportsAreOfBraidTraces : Type 0
 ReportsAreOfBraidTraces = (p : Parameters) (braid : BraidWord) (report : List ℕ) → braid_report p braid ≡ Ok report → IsReportOf (bracket p (closed braid)) report
 
--- the lines of a script follow from one another as its steps say: without framings each is its step's factor times the one before, modulo
--- m, and with framings a blow-up repeats the one before
-abbrev pub AreScriptLines : Parameters → Option (List ℤ) → ScriptParts → List ℕ → Type 0
-AreScriptLines p None script residues = AreBracketLines p script.diagram script.steps residues
-AreScriptLines p (Some framings) script residues = AreSurgeryLines p (record { items = script.diagram; framings = framings }) script.steps residues
+-- the lines of a script follow from one another as its steps say: without colours and framings each is its step's factor times the one
+-- before, modulo m; with colours a Reidemeister move repeats the one before, and a blow-up multiplies it by delta; with framings a
+-- blow-up repeats it
+abbrev pub AreScriptLines : Parameters → DiagramValues → ScriptParts → List ℕ → Type 0
+AreScriptLines p Brackets script residues = AreBracketLines p script.diagram script.steps residues
+AreScriptLines p (Coloured colours) script residues = AreColouredLines p (record { items = script.diagram; colours = colours }) script.steps residues
+AreScriptLines p (Surgery framings) script residues = AreSurgeryLines p (record { items = script.diagram; framings = framings }) script.steps residues
 
-pub record IsScriptReport (p : Parameters) (framings : Option (List ℤ)) (script : ScriptParts) (report : List ℕ) : Type 0 where
+pub record IsScriptReport (p : Parameters) (values : DiagramValues) (script : ScriptParts) (report : List ℕ) : Type 0 where
   pub residues : List ℕ
   pub told : report ≡ lines residues
-  pub follow : AreScriptLines p framings script residues
+  pub follow : AreScriptLines p values script residues
 
 -- a report that bytes come to as a script is one of such lines, of the script that they spell
 abbrev pub ReportsAreOfScripts : Type 0
 ReportsAreOfScripts =
-    (p : Parameters) (framings : Option (List ℤ)) (bytes report : List ℕ) → IsMovesOutcome p framings bytes (Ok report)
-    → (script : ScriptParts) × IsScriptTextOutcome bytes (Ok script) × IsScriptReport p framings script report
+    (p : Parameters) (values : DiagramValues) (bytes report : List ℕ) → IsMovesOutcome p values bytes (Ok report)
+    → (script : ScriptParts) × IsScriptTextOutcome bytes (Ok script) × IsScriptReport p values script report
 
 -- a report that tetrahedra come to is one of the sum of the weights over all colourings
 abbrev pub ReportsAreOfTetrahedra : Type 0
@@ -112,7 +116,7 @@ plain_task (Colored colours sweep) = Colored colours plain_sweep
 plain_task (Net colours sweep) = Net colours plain_sweep
 plain_task (Torus crossings sweep) = Torus crossings plain_sweep
 plain_task (Wrt framings workers even sweep) = Wrt framings 1 even plain_sweep
-plain_task (Moves framings) = Moves framings
+plain_task (Moves values) = Moves values
 plain_task Braid = Braid
 plain_task Tetrahedra = Tetrahedra
 

@@ -12,7 +12,7 @@ use Rattle.wrt_parts.specs.Texts.{Texts}
 use Rattle.wrt_words.specs.Words.{parts_of}
 use Rattle.wrt_request.specs.declared.request.Request.{Request}
 use Rattle.wrt_request.specs.declared.request.Task.{Task}
-use Rattle.wrt_request.specs.declared.request.Task.TheVariants.{Bracket, Colored, Net, Torus, Wrt, Moves, Braid, Tetrahedra}
+use Rattle.wrt_request.specs.declared.request.Task.TheVariants.{Torus, Wrt, Tetrahedra}
 use Rattle.wrt_request.specs.declared.fault.PartsRefusal.{PartsRefusal}
 use Rattle.wrt_request.specs.Requests.{request_of}
 use Rattle.wrt_commands.specs.declared.opening.Opened.{Opened}
@@ -35,25 +35,13 @@ parts_refused refusal = Words (Parts refusal)
 
 -- The form of the parameters: the even one for even colours alone.
 abbrev pub form_of : Task → Form
-form_of (Bracket sweep) = All
-form_of (Colored colours sweep) = All
-form_of (Net colours sweep) = All
-form_of (Torus crossings sweep) = All
-form_of (Wrt framings workers even sweep) = if even then Even else All
-form_of (Moves framings) = All
-form_of Braid = All
-form_of Tetrahedra = All
+form_of (Wrt framings workers true sweep) = Even
+form_of task = All
 
 -- R is past the task's own limit.
 abbrev pub is_past_level : Task → ℕ → Bool
-is_past_level (Bracket sweep) level = false
-is_past_level (Colored colours sweep) level = false
-is_past_level (Net colours sweep) level = false
-is_past_level (Torus crossings sweep) level = false
-is_past_level (Wrt framings workers even sweep) level = false
-is_past_level (Moves framings) level = false
-is_past_level Braid level = false
 is_past_level Tetrahedra level = nat_lt 6 level
+is_past_level task level = false
 
 -- The task of a request at its parameters.
 abbrev pub opened : Task → Parameters → Result Opened Refusal
@@ -73,14 +61,8 @@ opening words = after (line_of (parts_of words)) with_texts
 
 -- The task is about an input.
 abbrev pub is_about_input : Task → Bool
-is_about_input (Bracket sweep) = true
-is_about_input (Colored colours sweep) = true
-is_about_input (Net colours sweep) = true
 is_about_input (Torus crossings sweep) = false
-is_about_input (Wrt framings workers even sweep) = true
-is_about_input (Moves framings) = true
-is_about_input Braid = true
-is_about_input Tetrahedra = true
+is_about_input task = true
 
 -- The input is read.
 abbrev pub reads_input : Result Opened Refusal → Bool

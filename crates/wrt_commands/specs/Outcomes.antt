@@ -36,7 +36,7 @@ IsTaskOutcome p (Colored colours sweep) bytes outcome = IsColoredOutcome p colou
 IsTaskOutcome p (Net colours sweep) bytes outcome = IsNetOutcome p colours sweep bytes outcome
 IsTaskOutcome p (Torus crossings sweep) bytes outcome = Is (torus_outcome p crossings sweep) outcome
 IsTaskOutcome p (Wrt framings workers even sweep) bytes outcome = IsWrtOutcome p framings sweep bytes outcome
-IsTaskOutcome p (Moves framings) bytes outcome = IsMovesOutcome p framings bytes outcome
+IsTaskOutcome p (Moves values) bytes outcome = IsMovesOutcome p values bytes outcome
 IsTaskOutcome p Braid bytes outcome = IsBraidOutcome p bytes outcome
 IsTaskOutcome p Tetrahedra bytes outcome = IsTetraOutcome p bytes outcome
 

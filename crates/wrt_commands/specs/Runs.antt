@@ -14,6 +14,7 @@
 use Rattle.std.specs.Prelude.{◌≡◌, ◌⊎◌, ℕ, ◌<◌, ◌≤◌, List, [], length, take, true, Option, Some, None, Result, Ok, Err}
 use Rattle.skein_io.specs.Faults.{Rose}
 use Rattle.skein_io.specs.Sink.{Appends}
+use Rattle.wrt_commands.specs.declared.input.TheConstants.{MOST_BYTES}
 use Rattle.wrt_commands.specs.declared.opening.Opened.{Opened}
 use Rattle.wrt_commands.specs.declared.refusal.Refusal.{Refusal}
 use Rattle.wrt_commands.specs.declared.refusal.Refusal.TheVariants.{TooLong}
@@ -65,11 +66,11 @@ IsAtEnd (Some left) after = after ≡ Some []
 
 -- All bytes of a source, within the limit.
 abbrev pub IsRead : Option (List ℕ) → List ℕ → Type 0
-IsRead left bytes = IsTold left bytes × (length bytes ≤ 1048576)
+IsRead left bytes = IsTold left bytes × (length bytes ≤ MOST_BYTES)
 
 -- Why they aren't read.
 abbrev pub IsUnread : Option (List ℕ) → Stop → Type 0
-IsUnread left (stops.Refused refusal) = (bytes : List ℕ) × IsTold left bytes × (1048576 < length bytes) × (refusal ≡ TooLong past_limit)
+IsUnread left (stops.Refused refusal) = (bytes : List ℕ) × IsTold left bytes × (MOST_BYTES < length bytes) × (refusal ≡ TooLong past_limit)
 IsUnread left stops.ReadFault = Unit {0}
 IsUnread left stops.Memory = Unit {0}
 

@@ -20,6 +20,7 @@ text_of_parts (parts.Option option) = codes "option --" ++ name_of option ++ cod
 text_of_parts (parts.List option) = codes "list of --" ++ name_of option ++ codes " refused"
 text_of_parts parts.Workers = codes "workers are 1 to 64"
 text_of_parts parts.Crossings = codes "crossings are 1 to 256"
+text_of_parts parts.ColorsAndFraming = codes "moves takes one of --colors and --framing"
 
 abbrev pub text_of_words : WordsRefusal → List ℕ
 text_of_words NoCommandLine = codes "words refused"

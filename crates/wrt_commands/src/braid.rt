@@ -8,6 +8,7 @@ ghost use Rattle.wrt_commands.specs.Stops.{Answers, Is};
 
 use crate::braid_refusal::BraidRefusal;
 use crate::diagram_report::residue_report;
+use crate::input::MOST_BYTES;
 use crate::refusal::Refusal;
 use crate::stop::Stop;
 use crate::text_refusal::TextRefusal;
@@ -50,13 +51,13 @@ fn trace_report(alloc: Global, params: &Params, braid: &Braid) -> Result<String,
     Ok(residue_report(alloc, residue)?)
 }
 
-/// The report of `braid` on these bytes, at most 1,048,576.
+/// The report of `braid` on these bytes, at most `MOST_BYTES`.
 pub(crate) fn closed_braid_report(
     alloc: Global,
     params: &Params,
     bytes: &[u8],
 ) -> Result<String, Stop>
-    requires { length bytes.now ≤ 1048576 }
+    requires { length bytes.now ≤ MOST_BYTES }
     ensures { Answers (IsBraidOutcome params.now bytes.now) string_bytes result }
 {
     let braid = read_braid_input(alloc, bytes)?;

@@ -5,13 +5,13 @@ ghost use Rattle.wrt_commands.specs.ColoredOutcomes.{IsColoredOutcome};
 ghost use Rattle.wrt_commands.specs.Stops.{Answers};
 
 use crate::coloured_report::coloured_report;
-use crate::input::read_diagram;
+use crate::input::{MOST_BYTES, read_diagram};
 use crate::stop::Stop;
 use root_quantum::Params;
 use std::alloc::Global;
 use wrt_request::Sweep;
 
-/// The report of `colored` with these colours on these bytes, at most 1,048,576.
+/// The report of `colored` with these colours on these bytes, at most `MOST_BYTES`.
 pub(crate) fn colored_report(
     alloc: Global,
     params: &Params,
@@ -19,7 +19,7 @@ pub(crate) fn colored_report(
     sweep: &Sweep,
     bytes: &[u8],
 ) -> Result<String, Stop>
-    requires { length bytes.now ≤ 1048576 }
+    requires { length bytes.now ≤ MOST_BYTES }
     ensures { Answers (IsColoredOutcome params.now colours.now sweep.now bytes.now) string_bytes result }
 {
     let diagram = read_diagram(alloc, bytes)?;

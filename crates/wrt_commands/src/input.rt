@@ -21,10 +21,10 @@ use script_reader::{MOST_STEPS, Script, read_script};
 use skein_io::{ReadAll, Source, read_all};
 use std::alloc::Global;
 
-/// The most bytes of an input.
-const MOST_BYTES: usize = 1_048_576;
+/// The most bytes of an input: 1,048,576.
+pub(crate) const MOST_BYTES: usize = 1_048_576;
 
-/// All bytes of the source, at most 1,048,576.
+/// All bytes of the source, at most `MOST_BYTES`.
 pub(crate) fn read_input<S: Source>(alloc: Global, source: &mut S) -> Result<Vec<u8>, Stop>
     ensures answer { MatchResult result (λ bytes. IsRead (S.left source.old) bytes.items) (IsUnread (S.left source.old)) }
     ensures end { OnOk result (IsAtEnd (S.left source.old) (S.left source.new)) }

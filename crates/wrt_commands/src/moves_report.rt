@@ -4,10 +4,11 @@ ghost use Rattle.std.specs.Prelude.{◌≡◌, ◌≤◌, length, IfOk, string_b
 ghost use Rattle.pd_reader.specs.Diagrams.{labels};
 ghost use Rattle.pd_reader.specs.Items.{item_labels};
 ghost use Rattle.planar_check.specs.Components.{greatest};
-ghost use Rattle.script_values.specs.Drawings.{greatest_label};
+ghost use Rattle.script_values.specs.Drawings.{ColoursFit, greatest_label};
 ghost use Rattle.wrt_commands.specs.MovesReports.{first_drawing, lines, moves_report};
 ghost use Rattle.wrt_commands.specs.Stops.{Answers, Is};
 
+use crate::colour_fits::fit_components;
 use crate::diagram_report::check_planar;
 use crate::framing_fits::fit_framings;
 use crate::stop::Stop;
@@ -15,26 +16,35 @@ use colour_share::Gate;
 use planar_check::Planar;
 use root_quantum::Params;
 use script_reader::{MOST_STEPS, Script};
-use script_values::{Drawing, script_values};
+use script_values::{Coloured, Drawing, script_values};
 use std::alloc::{AllocError, Global};
 use std::thread::Threads;
-use wrt_request::FramingList;
+use wrt_request::DiagramValues;
 
 /// The greatest label that a text spells.
 const GREATEST_NUMBER: u32 = 999_999;
 
-/// The first diagram with these framings, or alone where none are given.
+/// The first diagram: alone, or with the colours or the framings that its values are about, where they fit.
 fn first_drawing(
     alloc: Global,
-    framings: &Option<FramingList>,
+    params: &Params,
+    values: &DiagramValues,
     plane: Planar,
 ) -> Result<Drawing, Stop>
-    ensures answer { Answers (Is (first_drawing framings.now plane)) (λ drawing. drawing) result }
+    ensures answer { Answers (Is (first_drawing params.now values.now plane)) (λ drawing. drawing) result }
     ensures labels { IfOk result (λ drawing. greatest_label drawing ≡ greatest (labels item_labels plane)) }
+    ensures fit { IfOk result (λ drawing. ColoursFit params.now drawing) }
 {
-    match framings {
-        None => Ok(Drawing::Plain(plane)),
-        Some(list) => Ok(Drawing::Framed(fit_framings(alloc, plane, list.members())?)),
+    match values {
+        DiagramValues::Brackets => Ok(Drawing::Plain(plane)),
+        DiagramValues::Coloured(list) => {
+            fit_components(params, &plane, list.members())?;
+            let colours = Vec::from_slice(alloc, list.members())?;
+            Ok(Drawing::Coloured(Coloured::new(plane, colours)))
+        }
+        DiagramValues::Surgery(list) => {
+            Ok(Drawing::Framed(fit_framings(alloc, plane, list.members())?))
+        }
     }
 }
 
@@ -55,17 +65,17 @@ pub(crate) fn moves_report<R: Threads + Sync, G: Gate + Sync>(
     rt: &R,
     alloc: Global,
     params: &Params,
-    framings: &Option<FramingList>,
+    values: &DiagramValues,
     script: Script,
     gate: &G,
 ) -> Result<String, Stop>
     requires labels { greatest (labels item_labels script.diagram) ≤ GREATEST_NUMBER }
     requires steps { length script.steps ≤ MOST_STEPS }
-    ensures { Answers (Is (moves_report params.now framings.now script)) string_bytes result }
+    ensures { Answers (Is (moves_report params.now values.now script)) string_bytes result }
 {
     let Script { diagram, steps } = script;
     let plane = check_planar(alloc, diagram)?;
-    let first = first_drawing(alloc, framings, plane)?;
+    let first = first_drawing(alloc, params, values, plane)?;
     let residues = script_values(rt, alloc, params, first, &steps, gate)?;
     Ok(lines(alloc, &residues)?)
 }

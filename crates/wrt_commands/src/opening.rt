@@ -34,14 +34,7 @@ fn form_of(task: &Task) -> Form
 {
     match task {
         Task::Wrt { even: true, .. } => Form::Even,
-        Task::Bracket { .. }
-        | Task::Colored { .. }
-        | Task::Net { .. }
-        | Task::Torus { .. }
-        | Task::Wrt { even: false, .. }
-        | Task::Moves { .. }
-        | Task::Braid
-        | Task::Tetrahedra => Form::All,
+        _ => Form::All,
     }
 }
 
@@ -51,13 +44,7 @@ fn is_past_level(task: &Task, level: u32) -> bool
 {
     match task {
         Task::Tetrahedra => level > 6,
-        Task::Bracket { .. }
-        | Task::Colored { .. }
-        | Task::Net { .. }
-        | Task::Torus { .. }
-        | Task::Wrt { .. }
-        | Task::Moves { .. }
-        | Task::Braid => false,
+        _ => false,
     }
 }
 

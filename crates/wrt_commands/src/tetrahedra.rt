@@ -7,6 +7,7 @@ ghost use Rattle.wrt_commands.specs.TetraOutcomes.{IsTetraOutcome, tetra_report}
 ghost use Rattle.wrt_commands.specs.TetraRefusals.{stop_of_sum, stop_of_tetra};
 
 use crate::diagram_report::residue_report;
+use crate::input::MOST_BYTES;
 use crate::refusal::Refusal;
 use crate::stop::Stop;
 use crate::tetra_refusal::TetraRefusal;
@@ -92,13 +93,13 @@ fn sum_report(alloc: Global, params: &Params, tetra: &Tetra) -> Result<String, S
     }
 }
 
-/// The report of `tv` on these bytes, at most 1,048,576.
+/// The report of `tv` on these bytes, at most `MOST_BYTES`.
 pub(crate) fn tetrahedra_report(
     alloc: Global,
     params: &Params,
     bytes: &[u8],
 ) -> Result<String, Stop>
-    requires { length bytes.now ≤ 1048576 }
+    requires { length bytes.now ≤ MOST_BYTES }
     ensures { Answers (IsTetraOutcome params.now bytes.now) string_bytes result }
 {
     let tetra = read_tetra_input(alloc, bytes)?;

@@ -81,9 +81,9 @@ fn task_report<R: Threads + Sync, S: Source, G: Gate + Sync>(
                 gate,
             )
         }
-        Task::Moves { framings } => {
+        Task::Moves { values } => {
             let bytes = read_input(alloc, source)?;
-            script_report(rt, alloc, &opened.params, framings, &bytes, gate)
+            script_report(rt, alloc, &opened.params, values, &bytes, gate)
         }
         Task::Braid => {
             let bytes = read_input(alloc, source)?;

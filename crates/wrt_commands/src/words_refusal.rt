@@ -46,6 +46,9 @@ impl fmt::Display for WordsRefusal {
             PartsRefusal::List { option } => write!(f, "list of --{option} refused"),
             PartsRefusal::Workers => write!(f, "workers are 1 to 64"),
             PartsRefusal::Crossings => write!(f, "crossings are 1 to 256"),
+            PartsRefusal::ColorsAndFraming => {
+                write!(f, "moves takes one of --colors and --framing")
+            }
         }
     }
 }

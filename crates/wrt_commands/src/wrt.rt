@@ -4,7 +4,7 @@ ghost use Rattle.std.specs.Prelude.{◌≡◌, ◌≤◌, length, string_bytes};
 ghost use Rattle.wrt_commands.specs.WrtOutcomes.{IsWrtOutcome, framing_list};
 ghost use Rattle.wrt_commands.specs.Stops.{Answers};
 
-use crate::input::read_diagram;
+use crate::input::{MOST_BYTES, read_diagram};
 use crate::stop::Stop;
 use crate::surgery_report::surgery_report;
 use colour_share::Gate;
@@ -23,7 +23,7 @@ fn framing_list(framings: &Option<FramingList>) -> &[i64]
     }
 }
 
-/// The report of `wrt` with these framings on these bytes, at most 1,048,576; so many workers share the sum, 1 to 64.
+/// The report of `wrt` with these framings on these bytes, at most `MOST_BYTES`; so many workers share the sum, 1 to 64.
 pub(crate) fn wrt_report<R: Threads + Sync, G: Gate + Sync>(
     rt: &R,
     alloc: Global,
@@ -34,7 +34,7 @@ pub(crate) fn wrt_report<R: Threads + Sync, G: Gate + Sync>(
     bytes: &[u8],
     gate: &G,
 ) -> Result<String, Stop>
-    requires length { length bytes.now ≤ 1048576 }
+    requires length { length bytes.now ≤ MOST_BYTES }
     requires first { 1 ≤ workers }
     requires last { workers ≤ 64 }
     ensures { Answers (IsWrtOutcome params.now framings.now sweep.now bytes.now) string_bytes result }

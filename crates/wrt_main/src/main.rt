@@ -2,7 +2,7 @@
 #![tactic(auto)]
 
 use colour_share::NoGate;
-use skein_io::{StdSink, StdSource};
+use skein_io::StdStream;
 use std::alloc::AllocError;
 use std::process::ExitCode;
 use std::thread::Threads;
@@ -13,9 +13,9 @@ use wrt_commands::{Refusal, Status, Stop, WordsRefusal, run};
 fn calculate(rt: &HostRuntime, threads: &(impl Threads + Sync)) -> io::Result<Status> {
     let words: Vec<String> = env::args(rt)?.skip(1).collect(rt.alloc())?;
     let words: Vec<&str> = words.iter().map(|word| word.as_str()).collect(rt.alloc())?;
-    let mut source = StdSource::new(rt.stdin());
-    let mut out = StdSink::new(rt.stdout());
-    let mut err = StdSink::new(rt.stderr());
+    let mut source = StdStream::new(rt.stdin());
+    let mut out = StdStream::new(rt.stdout());
+    let mut err = StdStream::new(rt.stderr());
     Ok(run(
         threads,
         rt.alloc(),

@@ -6,9 +6,10 @@ use Rattle.wrt_parts.specs.Texts.{Text, Texts}
 use Rattle.wrt_request.specs.declared.order.OrderWord.TheVariants.{Listed, Greedy, Given}
 use Rattle.wrt_request.specs.declared.option_name.OptionName.TheVariants.{Colors, Framing, Workers, Order, Even}
 use Rattle.wrt_request.specs.declared.request.Numbers.{Numbers}
-use Rattle.wrt_request.specs.declared.request.Task.TheVariants.{Bracket, Colored, Torus, Braid, Tetrahedra, Wrt}
+use Rattle.wrt_request.specs.declared.request.Task.TheVariants.{Bracket, Colored, Torus, Braid, Moves, Tetrahedra, Wrt}
+use Rattle.wrt_request.specs.declared.request.DiagramValues.TheVariants.{Brackets, Coloured, Surgery}
 use Rattle.wrt_request.specs.declared.fault.PartsRefusal.TheVariants as refusals
-use Rattle.wrt_request.specs.declared.fault.PartsRefusal.TheVariants.{UnknownCommand, Takes, Number, Crossings}
+use Rattle.wrt_request.specs.declared.fault.PartsRefusal.TheVariants.{UnknownCommand, Takes, Number, Crossings, ColorsAndFraming}
 use Rattle.wrt_request.proofs.OnLiterals.{request_on_literals}
 use Rattle.wrt_request.specs.Decimals.{decimal_value}
 use Rattle.wrt_request.specs.Framings.{framings_of}
@@ -324,3 +325,25 @@ some_tetrahedra = refl
 no_option : request_of (record (bare (codes "tv") (codes "41 2 5")) { order = Some (codes "listed") }) ≡ Err (refusals.Option Order)
 unfolding request_on_literals
 no_option = refl
+
+-- `moves` takes one list at most: without one it is about brackets, and an empty list is a list
+moves_without_lists : request_of (bare (codes "moves") (codes "41 2 5")) ≡ Ok (record { task = Moves Brackets; numbers = at_41 })
+unfolding request_on_literals
+moves_without_lists = refl
+
+moves_with_colours : request_of (record (bare (codes "moves") (codes "41 2 5")) { colors = Some (codes "2,1") }) ≡ Ok (record { task = Moves (Coloured (2 ∷ 1 ∷ [])); numbers = at_41 })
+unfolding request_on_literals
+moves_with_colours = refl
+
+moves_with_no_framings : request_of (record (bare (codes "moves") (codes "41 2 5")) { framing = Some [] }) ≡ Ok (record { task = Moves (Surgery []); numbers = at_41 })
+unfolding request_on_literals
+moves_with_no_framings = refl
+
+moves_with_both : request_of (record (bare (codes "moves") (codes "41 2 5")) { colors = Some (codes "2"); framing = Some (codes "0") }) ≡ Err ColorsAndFraming
+unfolding request_on_literals
+moves_with_both = refl
+
+-- the lists are looked at before that
+list_before_both : request_of (record (bare (codes "moves") (codes "41 2 5")) { colors = Some (codes "2"); framing = Some (codes "x") }) ≡ Err (refusals.List Framing)
+unfolding request_on_literals
+list_before_both = refl

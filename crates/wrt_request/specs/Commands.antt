@@ -7,8 +7,8 @@
 --     check_options command texts      all options that are given belong to the command, or the refusal of the first that
 --                                      doesn't
 --
--- All take M, A and R, and `torus` N before them; `--order` and `--turns` belong to all but `moves`, `braid` and `tv`, `--colors` to `colored` and
--- `net`, `--framing` to `wrt` and `moves`, `--workers` and `--even` to `wrt`.
+-- All take M, A and R, and `torus` N before them; `--order` and `--turns` belong to all but `moves`, `braid` and `tv`, `--colors` to `colored`,
+-- `net` and `moves`, `--framing` to `wrt` and `moves`, `--workers` and `--even` to `wrt`.
 use Rattle.std.specs.Prelude.{◌&&◌, ℕ, Bool, true, false, not, List, [], ◌∷◌, Option, Some, None, Result, Ok, Err, codes, find}
 use Rattle.std.specs.Str.{bytes_eq}
 use Rattle.wrt_parts.specs.Texts.{Text, Texts}
@@ -43,9 +43,9 @@ colors_and_order = record order_and_turns { colors = true }
 abbrev pub surgery_options : Options
 surgery_options = record order_and_turns { framing = true; workers = true; even = true }
 
--- `--framing`.
-abbrev pub framing_alone : Options
-framing_alone = record no_options { framing = true }
+-- `--colors` and `--framing`.
+abbrev pub colors_or_framing : Options
+colors_or_framing = record no_options { colors = true; framing = true }
 
 -- The table.
 abbrev pub row_of : Command → CommandRow
@@ -54,7 +54,7 @@ row_of Colored = record { name = codes "colored"; own_numbers = 0; options = col
 row_of Net = record { name = codes "net"; own_numbers = 0; options = colors_and_order }
 row_of Torus = record { name = codes "torus"; own_numbers = 1; options = order_and_turns }
 row_of Wrt = record { name = codes "wrt"; own_numbers = 0; options = surgery_options }
-row_of Moves = record { name = codes "moves"; own_numbers = 0; options = framing_alone }
+row_of Moves = record { name = codes "moves"; own_numbers = 0; options = colors_or_framing }
 row_of Braid = record { name = codes "braid"; own_numbers = 0; options = no_options }
 row_of Tetrahedra = record { name = codes "tv"; own_numbers = 0; options = no_options }
 

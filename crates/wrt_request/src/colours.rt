@@ -9,12 +9,18 @@ use crate::list::{NumberList, read_list};
 use crate::option_name::OptionName;
 use std::alloc::Global;
 
-/// The colours that the value of `--colors` says; none without the option. That they fit isn't known yet.
-pub(crate) fn read_colours(alloc: Global, value: Option<&str>) -> Result<NumberList, PartsFault>
+/// The colours that the value of `--colors` says, or `None` without the option. That they fit isn't known yet.
+pub(crate) fn read_colours(
+    alloc: Global,
+    value: Option<&str>,
+) -> Result<Option<NumberList>, PartsFault>
     ensures { Reads (λ list. list) (colours_of (option_map (λ s. s.now) value.entry)) result }
 {
-    match read_list(alloc, value.unwrap_or(""))? {
-        Some(list) => Ok(list),
+    let Some(text) = value else {
+        return Ok(None);
+    };
+    match read_list(alloc, text)? {
+        Some(list) => Ok(Some(list)),
         None => Err(PartsFault::Refused(PartsRefusal::List {
             option: OptionName::Colors,
         })),

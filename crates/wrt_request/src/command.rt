@@ -82,11 +82,27 @@ const SURGERY: Options = Options {
     ..ORDER_AND_TURNS
 };
 
-/// `--framing`.
-const FRAMING: Options = Options {
+/// `--colors` and `--framing`.
+const COLORS_OR_FRAMING: Options = Options {
+    colors: true,
     framing: true,
     ..NO_OPTIONS
 };
+
+impl Row {
+    /// The row of a command with this name, so many numbers of its own and these options.
+    fn new(name: &'static str, own_numbers: u32, options: Options) -> Row
+        ensures name { result.name.now ≡ name.now }
+        ensures own_numbers { result.own_numbers ≡ own_numbers }
+        ensures options { result.options ≡ options }
+    {
+        Row {
+            name,
+            own_numbers,
+            options,
+        }
+    }
+}
 
 impl Command {
     /// All commands.
@@ -108,46 +124,14 @@ impl Command {
         ensures options { result.options ≡ (row_of self).options }
     {
         match self {
-            Command::Bracket => Row {
-                name: "bracket",
-                own_numbers: 0,
-                options: ORDER_AND_TURNS,
-            },
-            Command::Colored => Row {
-                name: "colored",
-                own_numbers: 0,
-                options: COLORS_AND_ORDER,
-            },
-            Command::Net => Row {
-                name: "net",
-                own_numbers: 0,
-                options: COLORS_AND_ORDER,
-            },
-            Command::Torus => Row {
-                name: "torus",
-                own_numbers: 1,
-                options: ORDER_AND_TURNS,
-            },
-            Command::Wrt => Row {
-                name: "wrt",
-                own_numbers: 0,
-                options: SURGERY,
-            },
-            Command::Moves => Row {
-                name: "moves",
-                own_numbers: 0,
-                options: FRAMING,
-            },
-            Command::Braid => Row {
-                name: "braid",
-                own_numbers: 0,
-                options: NO_OPTIONS,
-            },
-            Command::Tetrahedra => Row {
-                name: "tv",
-                own_numbers: 0,
-                options: NO_OPTIONS,
-            },
+            Command::Bracket => Row::new("bracket", 0, ORDER_AND_TURNS),
+            Command::Colored => Row::new("colored", 0, COLORS_AND_ORDER),
+            Command::Net => Row::new("net", 0, COLORS_AND_ORDER),
+            Command::Torus => Row::new("torus", 1, ORDER_AND_TURNS),
+            Command::Wrt => Row::new("wrt", 0, SURGERY),
+            Command::Moves => Row::new("moves", 0, COLORS_OR_FRAMING),
+            Command::Braid => Row::new("braid", 0, NO_OPTIONS),
+            Command::Tetrahedra => Row::new("tv", 0, NO_OPTIONS),
         }
     }
 

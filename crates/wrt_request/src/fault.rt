@@ -23,6 +23,8 @@ pub enum PartsRefusal {
     Workers,
     /// The crossings aren't 1 to 256.
     Crossings,
+    /// `moves` has both `--colors` and `--framing`.
+    ColorsAndFraming,
 }
 
 /// Why there is no request: the parts are refused, or memory ran out.

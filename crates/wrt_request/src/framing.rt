@@ -6,36 +6,13 @@ ghost use Rattle.wrt_request.specs.Lists.{members_by};
 ghost use Rattle.wrt_request.specs.Stages.{Reads};
 
 use crate::fault::{PartsFault, PartsRefusal};
-use crate::list::pieces;
+use crate::list::{ValueList, pieces};
 use crate::number::decimal;
 use crate::option_name::OptionName;
 use std::alloc::{AllocError, Global};
-use std::marker::Model;
 
 /// A list of framings: whole numbers from -2^63 to 2^63 - 1.
-///
-/// Contracts see it as the list of its members.
-#[derive(Drop, Debug)]
-pub struct FramingList {
-    members: Vec<i64>,
-}
-
-impl Model for FramingList {
-    ghost use Rattle.std.specs.Prelude.{List, ℤ};
-
-    ghost Value = { List ℤ };
-
-    ghost view = { λ list. list.members.items };
-}
-
-impl FramingList {
-    /// The framings, in their order. It takes no memory.
-    pub fn members(&self) -> &[i64]
-        ensures { result.now ≡ self.now }
-    {
-        &self.members
-    }
-}
+pub type FramingList = ValueList<i64>;
 
 /// The whole number that the text writes in decimal, with a `-` or no sign: none for `+1`, `--1` and `-01`, and 0 for `-0`.
 fn signed(text: &str) -> Option<i64>
@@ -64,7 +41,7 @@ fn framings_in(alloc: Global, texts: &[&str]) -> Result<Option<FramingList>, All
             None => return Ok(None),
         }
     }
-    Ok(Some(FramingList { members }))
+    Ok(Some(ValueList::of(members)))
 }
 
 /// The framings that the value of `--framing` says, or `None` without the option. That they fit isn't known yet.

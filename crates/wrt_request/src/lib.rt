@@ -17,11 +17,11 @@ mod workers;
 pub use fault::{PartsFault, PartsRefusal};
 pub use framing::FramingList;
 pub use laws::{lists_by_spelling, numbers_by_spelling};
-pub use list::NumberList;
+pub use list::{NumberList, ValueList};
 pub use number::decimal;
 pub use option_name::OptionName;
 pub use order::OrderWord;
-pub use request::{Numbers, Request, Sweep, Task, read_request};
+pub use request::{DiagramValues, Numbers, Request, Sweep, Task, read_request};
 
 #[cfg(test)]
 mod tests;

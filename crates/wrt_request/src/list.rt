@@ -1,4 +1,4 @@
-//! Lists of numbers as the values of options write them.
+//! Lists as the values of options write them.
 
 ghost use Rattle.std.specs.Prelude.{◌≡◌, ◌==◌, IfOk, map, option_map};
 ghost use Rattle.std.specs.List.{slice_split};
@@ -8,25 +8,35 @@ use crate::number::decimal;
 use std::alloc::{AllocError, Global};
 use std::marker::Model;
 
-/// A list of numbers below 10^9.
+/// A list as the value of an option writes it.
 ///
 /// Contracts see it as the list of its members.
 #[derive(Drop, Debug)]
-pub struct NumberList {
-    members: Vec<u32>,
+pub struct ValueList<T> {
+    members: Vec<T>,
 }
 
-impl Model for NumberList {
-    ghost use Rattle.std.specs.Prelude.{List, ℕ};
+/// A list of numbers below 10^9.
+pub type NumberList = ValueList<u32>;
 
-    ghost Value = { List ℕ };
+impl<T> Model for ValueList<T> {
+    ghost use Rattle.std.specs.Prelude.{List};
+
+    ghost Value = { List T };
 
     ghost view = { λ list. list.members.items };
 }
 
-impl NumberList {
+impl<T> ValueList<T> {
+    /// The list of these members.
+    pub(crate) fn of(members: Vec<T>) -> ValueList<T>
+        ensures { result ≡ members.items }
+    {
+        ValueList { members }
+    }
+
     /// The members, in their order. It takes no memory.
-    pub fn members(&self) -> &[u32]
+    pub fn members(&self) -> &[T]
         ensures { result.now ≡ self.now }
     {
         &self.members
@@ -64,7 +74,7 @@ fn list_of_members(alloc: Global, texts: &[&str]) -> Result<Option<NumberList>, 
             None => return Ok(None),
         }
     }
-    Ok(Some(NumberList { members }))
+    Ok(Some(ValueList::of(members)))
 }
 
 /// The pieces of the text between its commas; none of the empty text.

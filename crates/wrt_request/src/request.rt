@@ -3,14 +3,14 @@
 ghost use Rattle.std.specs.Prelude.{◌≡◌, ◌+◌, ◌≤◌, length, IfOk};
 ghost use Rattle.wrt_parts.specs.Texts.{texts_of};
 ghost use Rattle.wrt_request.specs.Commands.{row_of};
-ghost use Rattle.wrt_request.specs.Requests.{IsInRange, arguments_of, request_of, rest_of, shared_numbers, sweep_of, task_of};
+ghost use Rattle.wrt_request.specs.Requests.{IsInRange, arguments_of, listed, request_of, rest_of, diagram_values, shared_numbers, sweep_of, task_of};
 ghost use Rattle.wrt_request.specs.Stages.{Reads};
 
 use crate::colours::read_colours;
 use crate::command::Command;
 use crate::fault::{PartsFault, PartsRefusal};
 use crate::framing::{FramingList, read_framings};
-use crate::list::NumberList;
+use crate::list::{NumberList, ValueList};
 use crate::number::read_numbers;
 use crate::order::{OrderWord, read_order};
 use crate::workers::read_workers;
@@ -37,11 +37,11 @@ pub struct Sweep {
     pub turns: bool,
 }
 
-/// The values of the options. Those that aren't given have their values for that.
+/// The values of the options. Orders and workers that aren't given have their values for that.
 #[derive(Drop)]
 pub(crate) struct Arguments {
-    /// The colours.
-    pub(crate) colours: NumberList,
+    /// The colours, where the option is given.
+    pub(crate) colours: Option<NumberList>,
     /// The framings, where the option is given.
     pub(crate) framings: Option<FramingList>,
     /// The options of a sweep.
@@ -50,6 +50,17 @@ pub(crate) struct Arguments {
     pub(crate) workers: u32,
     /// Whether only even colours are summed.
     pub(crate) even: bool,
+}
+
+/// Which values of a script's diagrams are asked for. That a list fits the components of the first diagram isn't known yet.
+#[derive(Drop, Debug)]
+pub enum DiagramValues {
+    /// Without an option: the brackets.
+    Brackets,
+    /// With `--colors`: the coloured values, the components of the first diagram having these colours.
+    Coloured(NumberList),
+    /// With `--framing`: the surgery values, the components of the first diagram having these framings.
+    Surgery(FramingList),
 }
 
 /// What is asked for at M, A and R, with its own arguments.
@@ -84,10 +95,9 @@ pub enum Task {
         even: bool,
         sweep: Sweep,
     },
-    /// `moves M A R`: the values of the diagrams of the script on the input, its first one and what each step gives: brackets,
-    /// or with framings, which those of the first diagram's components are, surgery values. That they fit it isn't known yet.
+    /// `moves M A R`: these values of the diagrams of the script on the input, its first one and what each step gives.
     Moves {
-        framings: Option<FramingList>,
+        values: DiagramValues,
     },
     /// `braid M A R`: the bracket of the closure of the braid on the input.
     Braid,
@@ -133,8 +143,38 @@ fn read_arguments(alloc: Global, parts: &Parts) -> Result<Arguments, PartsFault>
     })
 }
 
+/// The list that is given, or else the empty one.
+fn listed(alloc: Global, list: Option<NumberList>) -> NumberList
+    ensures { result ≡ listed list }
+{
+    match list {
+        Some(list) => list,
+        None => ValueList::of(Vec::new(alloc)),
+    }
+}
+
+/// The values that `moves` asks for: it takes one of both lists.
+fn diagram_values(
+    colours: Option<NumberList>,
+    framings: Option<FramingList>,
+) -> Result<DiagramValues, PartsRefusal>
+    ensures { result ≡ diagram_values colours framings }
+{
+    match (colours, framings) {
+        (None, None) => Ok(DiagramValues::Brackets),
+        (Some(colours), None) => Ok(DiagramValues::Coloured(colours)),
+        (None, Some(framings)) => Ok(DiagramValues::Surgery(framings)),
+        (Some(_), Some(_)) => Err(PartsRefusal::ColorsAndFraming),
+    }
+}
+
 /// What the command asks for with its own numbers and the values of its options.
-fn read_task(command: Command, numbers: &[u64], arguments: Arguments) -> Result<Task, PartsRefusal>
+fn read_task(
+    alloc: Global,
+    command: Command,
+    numbers: &[u64],
+    arguments: Arguments,
+) -> Result<Task, PartsRefusal>
     requires numbers { length numbers.now ≡ (row_of command).own_numbers + 3 }
     requires workers { (1 ≤ arguments.workers) × (arguments.workers ≤ 64) }
     ensures value { result ≡ task_of command numbers.now arguments }
@@ -149,8 +189,14 @@ fn read_task(command: Command, numbers: &[u64], arguments: Arguments) -> Result<
     } = arguments;
     match command {
         Command::Bracket => Ok(Task::Bracket { sweep }),
-        Command::Colored => Ok(Task::Colored { colours, sweep }),
-        Command::Net => Ok(Task::Net { colours, sweep }),
+        Command::Colored => Ok(Task::Colored {
+            colours: listed(alloc, colours),
+            sweep,
+        }),
+        Command::Net => Ok(Task::Net {
+            colours: listed(alloc, colours),
+            sweep,
+        }),
         Command::Torus => match numbers[0] {
             crossings @ 1..=256 => Ok(Task::Torus {
                 crossings: crossings as u32,
@@ -164,7 +210,9 @@ fn read_task(command: Command, numbers: &[u64], arguments: Arguments) -> Result<
             even,
             sweep,
         }),
-        Command::Moves => Ok(Task::Moves { framings }),
+        Command::Moves => Ok(Task::Moves {
+            values: diagram_values(colours, framings)?,
+        }),
         Command::Braid => Ok(Task::Braid),
         Command::Tetrahedra => Ok(Task::Tetrahedra),
     }
@@ -197,7 +245,7 @@ fn read_rest(
 {
     command.check_options(parts)?;
     let arguments = read_arguments(alloc, parts)?;
-    let task = read_task(command, numbers, arguments)?;
+    let task = read_task(alloc, command, numbers, arguments)?;
     Ok(Request {
         task,
         numbers: shared_numbers(command, numbers),

@@ -6,10 +6,10 @@ ghost use Rattle.wrt_values.specs.Values.{Gives, bracket_value};
 use crate::fault::ValueFault;
 use crate::sweep::network_value;
 use crate::value::Value;
-use diagram_brackets::bracket_network;
 use frontier_sweep::{Chooser, Order};
 use pd_reader::Diagram;
 use root_quantum::Params;
+use skein_network::plain_cable;
 use std::alloc::Global;
 
 /// The Kauffman bracket of the diagram: its value with all components coloured 1, and its framing not
@@ -26,6 +26,6 @@ pub fn bracket_value(
     // The definition's value, or its refusal, or want of memory.
     ensures { Gives (bracket_value (next_of order.now) params.now diagram.now) result }
 {
-    let network = bracket_network(alloc, params, diagram)?;
+    let network = plain_cable(alloc, params, diagram)?;
     network_value(alloc, params, &network, order, 1)
 }

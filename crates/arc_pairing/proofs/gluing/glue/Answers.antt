@@ -1,5 +1,6 @@
 -- Each answer is one lemma on the whole gluing, at the lists that the calls gave.
-use Rattle.arc_pairing.proofs.GluedPairings.{end_paired, end_partners, end_loops, end_short, end_slots_small, outer_slots_small}
+use Rattle.std.proofs.Common.{rules}
+use Rattle.arc_pairing.proofs.GluedPairings.{end_facts, end_short, end_slots_small, outer_slots_small}
 use Rattle.arc_pairing.proofs.gluing.glue.Goals as goal
 
 pub join_pairs-loops-requires-clause-slots : goal.join_pairs-loops-requires-clause-slots
@@ -26,32 +27,19 @@ invariant_of-result c =
     c.first_mates-mates.result c.join_pairs-loops.new.mates c.first_mates-mates.ensures.points c.first_mates-mates.ensures.others c.join_pairs-loops.ensures.mates
     c.places_of_mates-partners.result.items c.places_of_mates-partners.ensures
 
-pub returns-clause-paired : goal.returns-clause-paired
-returns-clause-paired c =
+pub returns : goal.returns
+returns c =
     let s = c.seam.inside in
-    end_paired s.inner.items s.ends.items s.outer.items s.end_slots.items s.outer_slots.items s.places c.seam.invariant c.args.seam.now c.seam.view_is
+    let found = end_facts s.inner.items s.ends.items s.outer.items s.end_slots.items s.outer_slots.items s.places c.seam.invariant c.args.seam.now c.seam.view_is
     c.args.old.now c.partners-points.result.now c.args.term.now c.partners-pairs.result.now c.as_slice.result.now c.as_slice-2.result.now
     c.partners-points.ensures.value c.partners-pairs.ensures.value c.as_slice.ensures.value c.as_slice-2.ensures.value
     c.partners-points.ensures.pairing c.partners-pairs.ensures.pairing c.requires.old_fits c.requires.term_fits
     c.first_mates-mates.result c.join_pairs-loops.new.mates c.first_mates-mates.ensures.points c.first_mates-mates.ensures.others c.join_pairs-loops.ensures.mates
-    c.places_of_mates-partners.result.items c.places_of_mates-partners.ensures
-
-pub returns-clause-partners : goal.returns-clause-partners
-returns-clause-partners c =
-    let s = c.seam.inside in
-    end_partners s.inner.items s.ends.items s.outer.items s.end_slots.items s.outer_slots.items s.places c.seam.invariant c.args.seam.now c.seam.view_is
-    c.args.old.now c.partners-points.result.now c.args.term.now c.partners-pairs.result.now c.as_slice.result.now c.as_slice-2.result.now
-    c.partners-points.ensures.value c.partners-pairs.ensures.value c.as_slice.ensures.value c.as_slice-2.ensures.value
-    c.partners-points.ensures.pairing c.partners-pairs.ensures.pairing c.requires.old_fits c.requires.term_fits
-    c.first_mates-mates.result c.join_pairs-loops.new.mates c.first_mates-mates.ensures.points c.first_mates-mates.ensures.others c.join_pairs-loops.ensures.mates
-    c.places_of_mates-partners.result.items c.places_of_mates-partners.ensures
-
-pub returns-clause-closed : goal.returns-clause-closed
-returns-clause-closed c =
-    let s = c.seam.inside in
-    end_loops s.inner.items s.ends.items s.outer.items s.end_slots.items s.outer_slots.items s.places c.seam.invariant c.args.seam.now c.seam.view_is
-    c.args.old.now c.partners-points.result.now c.args.term.now c.partners-pairs.result.now c.as_slice.result.now c.as_slice-2.result.now
-    c.partners-points.ensures.value c.partners-pairs.ensures.value c.as_slice.ensures.value c.as_slice-2.ensures.value
-    c.partners-points.ensures.pairing c.partners-pairs.ensures.pairing c.requires.old_fits c.requires.term_fits
-    c.first_mates-mates.result c.join_pairs-loops.new.mates c.first_mates-mates.ensures.points c.first_mates-mates.ensures.others c.join_pairs-loops.ensures.mates
-    c.join_pairs-loops.result c.join_pairs-loops.ensures.loops
+    c.places_of_mates-partners.result.items c.places_of_mates-partners.ensures c.join_pairs-loops.result c.join_pairs-loops.ensures.loops in
+    record {
+      paired = found.paired;
+      partners = found.partners;
+      closed = found.closed;
+      few = search rules;
+      turns = search rules;
+    }

@@ -1,4 +1,4 @@
-use Rattle.std.proofs.Common.{◌≡◌, ℕ, ap, subst}
+use Rattle.std.proofs.Common.{subst}
 use Rattle.wenzl_table.specs.Inverses.{AreCoprime}
 use Rattle.colour_share.proofs.checks.check.Goals as goal
 

@@ -1,4 +1,4 @@
-use Rattle.std.proofs.Common.{◌≡◌, ℕ, ◌+◌, ◌-◌, ◌/◌, ◌<◌, ap, sym, subst, ◌∙◌, arith}
+use Rattle.std.proofs.Common.{◌≡◌, ℕ, ◌+◌, ◌-◌, ◌/◌, ap, sym, subst, ◌∙◌, arith}
 use Rattle.colour_share.specs.Merging.{Fits, IsMerged}
 use Rattle.colour_share.proofs.Halves.{halves, fits}
 use Rattle.colour_share.proofs.sharing.+fn-share-join+arg2+fn-share-join+arg3+share.Goals as goal

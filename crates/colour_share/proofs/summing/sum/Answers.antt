@@ -1,8 +1,7 @@
-use Rattle.std.proofs.Common.{◌≡◌, ℕ, ◌<◌, ◌∙◌, sym, ap, subst, arith}
+use Rattle.std.proofs.Common.{◌∙◌, sym, ap, subst, arith}
 use Rattle.root_quantum.specs.Parameters.{Parameters}
 use Rattle.kirby_terms.specs.Terms.{colouring_total, HasInverses}
 use Rattle.colour_share.specs.Sums.{IsRefused, IsStoppedSum, IsFirstLimit}
-use Rattle.colour_share.specs.declared.fault.SumFault.{SumFault}
 use Rattle.colour_share.proofs.Wholes.{whole_value, whole_turns, whole_stop, turns_by, first_limit, own_notes}
 use Rattle.colour_share.proofs.Refusals.{refused_exactly, value_exactly, stop_exactly}
 use Rattle.colour_share.proofs.summing.sum.Goals as goal

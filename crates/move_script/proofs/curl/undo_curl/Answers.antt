@@ -1,6 +1,5 @@
 use Rattle.std.proofs.Common.{◌≡◌, ◌∙◌, ℕ, List, [], ◌∷◌, inr, sym, ap}
 use Rattle.graph_parts.specs.LeastNames.{least_label}
-use Rattle.planar_check.specs.declared.sign.Sign.{Sign}
 use Rattle.diagram_moves.specs.declared.factor.Factor.{Factor}
 use Rattle.diagram_moves.specs.Moves.{curl_classes, curl_of, finished, removed}
 use Rattle.diagram_moves.specs.Rewriting.{slot}

@@ -1,4 +1,4 @@
-use Rattle.std.proofs.Common.{◌≡◌, refl, sym, ◌∙◌}
+use Rattle.std.proofs.Common.{refl, sym, ◌∙◌}
 use Rattle.move_script.proofs.EdgeLemmas.{a_loop, no_loop}
 use Rattle.move_script.proofs.edges.edge_places.Goals as goal
 

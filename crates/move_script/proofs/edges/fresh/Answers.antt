@@ -1,7 +1,6 @@
-use Rattle.std.proofs.Common.{◌≡◌, ◌≤◌, ℕ, List, length, drop, ap, subst, arith, sym, ◌∙◌, max}
-use Rattle.std.specs.List.{AllByRecursion}
+use Rattle.std.proofs.Common.{◌≡◌, ◌≤◌, ℕ, List, length, drop, ap, arith, ◌∙◌, max}
 use Rattle.std.proofs.lemmas.List.{drop_all}
-use Rattle.pd_reader.specs.Diagrams.{IsLabel, labels}
+use Rattle.pd_reader.specs.Diagrams.{labels}
 use Rattle.pd_reader.specs.Items.{item_labels}
 use Rattle.planar_check.specs.Components.{greatest}
 use Rattle.move_script.proofs.EdgeLemmas.{greatest_in_range}

@@ -1,4 +1,4 @@
-use Rattle.std.proofs.Common.{◌≡◌, ◌∙◌, ◌++◌, List, sym, ap}
+use Rattle.std.proofs.Common.{◌∙◌, ◌++◌, List, ap}
 use Rattle.pd_reader.specs.declared.item.Item.{Item}
 use Rattle.planar_check.specs.Components.{least_labels}
 use Rattle.diagram_moves.specs.Steps.{Moved}

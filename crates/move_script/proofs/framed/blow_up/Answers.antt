@@ -1,8 +1,7 @@
-use Rattle.std.proofs.Common.{◌≡◌, ◌∙◌, ◌<◌, List, length, inl, sym, ap, subst, ⊎_elim}
+use Rattle.std.proofs.Common.{◌∙◌, ◌<◌, List, length, inl, ap, subst, ⊎_elim}
 use Rattle.std.proofs.lemmas.Result.{IfErr-weaker, IfOk-weaker}
 use Rattle.pd_reader.specs.declared.item.Item.{Item}
 use Rattle.pd_reader.specs.Diagrams.{IsDiagram}
-use Rattle.planar_check.specs.Framings.{FramedDiagram}
 use Rattle.planar_check.specs.Places.{item_slots}
 use Rattle.planar_check.specs.Planar.{IsPlanar}
 use Rattle.coloured_values.specs.Surgery.{HasSurgeryValue, surgery}

@@ -1,6 +1,4 @@
-use Rattle.std.proofs.Common.{◌≡◌, ◌∙◌, Err, ap, sym}
-use Rattle.planar_check.specs.declared.fault.FramedFault.{FramedFault}
-use Rattle.planar_check.specs.Framings.{FramedDiagram}
+use Rattle.std.proofs.Common.{◌∙◌, Err, ap, sym}
 use Rattle.move_script.proofs.FramingsKept.{none_found}
 use Rattle.move_script.proofs.framed.framed_with.Goals as goal
 

@@ -1,4 +1,4 @@
-use Rattle.std.proofs.Common.{◌≡◌, ◌⊎◌, inl, inr, ◌∙◌, ℕ, ◌+◌, ◌≤◌, List, Ok, Err, sym, ap, subst, arith}
+use Rattle.std.proofs.Common.{◌≡◌, inl, inr, ◌∙◌, ◌+◌, ◌≤◌, List, Ok, Err, sym, ap, subst, arith}
 use Rattle.pd_reader.specs.declared.item.Item.{Item}
 use Rattle.pd_reader.specs.Diagrams.{IsDiagram, labels}
 use Rattle.pd_reader.specs.Items.{item_labels}
@@ -27,7 +27,7 @@ pub diagram_of-requires : goal.diagram_of-requires
 diagram_of-requires c =
     let items = c.args.diagram.now in
     let made = made_moved (move items c.args.step.now) c.in_ok-changed.changed c.in_ok-changed.ensures.made in
-    let room : fresh items + 3 ≤ 2000000 = omega (arith, c.requires) in
+    let room : fresh items + 3 ≤ 2000000 = omega (arith, c.requires.room) in
     let is = diagram_again items c.args.step.now c.in_ok-changed.changed c.change.ensures.diagram room made in
     let same : c.deref.result.now ≡ c.in_ok-changed.changed.items = c.deref.ensures.value ∙ ap (λ (m : Moved). m.items) c.changed.view_is in
     subst IsDiagram (sym same) is

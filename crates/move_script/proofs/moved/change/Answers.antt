@@ -1,4 +1,3 @@
-use Rattle.std.proofs.Common.{◌≡◌}
 use Rattle.move_script.proofs.moved.change.Goals as goal
 
 pub returns-in-BlowUp-clause-made : goal.returns-in-BlowUp-clause-made

@@ -1,4 +1,3 @@
-use Rattle.std.proofs.Common.{◌≡◌}
 use Rattle.move_script.proofs.slide.moved.Goals as goal
 
 pub returns : goal.returns

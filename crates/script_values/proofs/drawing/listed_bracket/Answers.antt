@@ -1,6 +1,6 @@
-use Rattle.std.proofs.Common.{◌≡◌, ◌∙◌, ℕ, List, ap, subst, sym}
+use Rattle.std.proofs.Common.{ℕ, List, ap, subst}
 use Rattle.pd_reader.specs.declared.item.Item.{Item}
-use Rattle.frontier_laws.specs.Orders.{View, listed_of}
+use Rattle.frontier_laws.specs.Orders.{View}
 use Rattle.frontier_sweep.specs.Next.{next_of}
 use Rattle.wrt_values.specs.Values.{Gives, bracket_value}
 use Rattle.script_values.proofs.drawing.listed_bracket.Goals as goal

@@ -1,4 +1,4 @@
-use Rattle.std.proofs.Common.{◌≡◌, ◌∙◌, ◌+◌, ◌∷◌, [], ◌++◌, drop, length, Ok, sym, ap, subst, arith}
+use Rattle.std.proofs.Common.{◌∙◌, ◌+◌, drop, sym, ap, subst, arith}
 use Rattle.script_values.specs.Scripts.{Fails, values}
 use Rattle.script_values.specs.declared.fault.ScriptFault.{ScriptFault}
 use Rattle.script_values.proofs.Played.{before, begins, dropped_at, one_more_value, no_more_values, no_values_left}

@@ -7,29 +7,12 @@ use Rattle.skein_network.specs.Standings.{AreAtCrossing}
 use Rattle.skein_network.proofs.ItemNodes.{fits_grid, pushed_crossing}
 use Rattle.skein_network.proofs.item.push_crossing_item.Goals as goal
 
-pub push_crossing-requires-clause-columns : goal.push_crossing-requires-clause-columns
-push_crossing-requires-clause-columns c =
+pub push_crossing-requires : goal.push_crossing-requires
+push_crossing-requires c =
     let p = c.args.colouring.now.params.now in
     let at = subst (λ es. AreAtCrossing (strands_at p es) (reverse c.args.seen.now.items) c.args.slots.now c.in_ok-ends.ends) c.deref-2.ensures.value (c.in_ok-ends.ensures.names p) in
-    (fits_grid p c.args.colouring.now.edges.items c.requires.ready.few (reverse c.args.seen.now.items) c.args.slots.now c.in_ok-ends.ends c.requires.fits at).columns
-
-pub push_crossing-requires-clause-rows : goal.push_crossing-requires-clause-rows
-push_crossing-requires-clause-rows c =
-    let p = c.args.colouring.now.params.now in
-    let at = subst (λ es. AreAtCrossing (strands_at p es) (reverse c.args.seen.now.items) c.args.slots.now c.in_ok-ends.ends) c.deref-2.ensures.value (c.in_ok-ends.ensures.names p) in
-    (fits_grid p c.args.colouring.now.edges.items c.requires.ready.few (reverse c.args.seen.now.items) c.args.slots.now c.in_ok-ends.ends c.requires.fits at).rows
-
-pub push_crossing-requires-clause-under : goal.push_crossing-requires-clause-under
-push_crossing-requires-clause-under c =
-    let p = c.args.colouring.now.params.now in
-    let at = subst (λ es. AreAtCrossing (strands_at p es) (reverse c.args.seen.now.items) c.args.slots.now c.in_ok-ends.ends) c.deref-2.ensures.value (c.in_ok-ends.ensures.names p) in
-    (fits_grid p c.args.colouring.now.edges.items c.requires.ready.few (reverse c.args.seen.now.items) c.args.slots.now c.in_ok-ends.ends c.requires.fits at).under
-
-pub push_crossing-requires-clause-over : goal.push_crossing-requires-clause-over
-push_crossing-requires-clause-over c =
-    let p = c.args.colouring.now.params.now in
-    let at = subst (λ es. AreAtCrossing (strands_at p es) (reverse c.args.seen.now.items) c.args.slots.now c.in_ok-ends.ends) c.deref-2.ensures.value (c.in_ok-ends.ensures.names p) in
-    (fits_grid p c.args.colouring.now.edges.items c.requires.ready.few (reverse c.args.seen.now.items) c.args.slots.now c.in_ok-ends.ends c.requires.fits at).over
+    let fits = fits_grid p c.args.colouring.now.edges.items c.requires.ready.few (reverse c.args.seen.now.items) c.args.slots.now c.in_ok-ends.ends c.requires.fits at in
+    record { item = c.requires.item; columns = fits.columns; rows = fits.rows; under = fits.under; over = fits.over }
 
 pub returns-clause-nodes : goal.returns-clause-nodes
 returns-clause-nodes c =

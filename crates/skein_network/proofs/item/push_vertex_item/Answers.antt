@@ -7,29 +7,12 @@ use Rattle.skein_network.specs.Standings.{AreAtVertex}
 use Rattle.skein_network.proofs.ItemNodes.{fits_vertex, pushed_vertex}
 use Rattle.skein_network.proofs.item.push_vertex_item.Goals as goal
 
-pub push_vertex-requires-clause-first : goal.push_vertex-requires-clause-first
-push_vertex-requires-clause-first c =
+pub push_vertex-requires : goal.push_vertex-requires
+push_vertex-requires c =
     let p = c.args.colouring.now.params.now in
     let at = subst (λ es. AreAtVertex (strands_at p es) (reverse c.args.seen.now.items) c.args.slots.now c.in_ok-ends.ends) c.deref-2.ensures.value (c.in_ok-ends.ensures.names p) in
-    (fits_vertex p c.args.colouring.now.edges.items c.requires.ready.few (reverse c.args.seen.now.items) c.args.slots.now c.in_ok-ends.ends c.requires.fits at).first
-
-pub push_vertex-requires-clause-second : goal.push_vertex-requires-clause-second
-push_vertex-requires-clause-second c =
-    let p = c.args.colouring.now.params.now in
-    let at = subst (λ es. AreAtVertex (strands_at p es) (reverse c.args.seen.now.items) c.args.slots.now c.in_ok-ends.ends) c.deref-2.ensures.value (c.in_ok-ends.ensures.names p) in
-    (fits_vertex p c.args.colouring.now.edges.items c.requires.ready.few (reverse c.args.seen.now.items) c.args.slots.now c.in_ok-ends.ends c.requires.fits at).second
-
-pub push_vertex-requires-clause-third : goal.push_vertex-requires-clause-third
-push_vertex-requires-clause-third c =
-    let p = c.args.colouring.now.params.now in
-    let at = subst (λ es. AreAtVertex (strands_at p es) (reverse c.args.seen.now.items) c.args.slots.now c.in_ok-ends.ends) c.deref-2.ensures.value (c.in_ok-ends.ensures.names p) in
-    (fits_vertex p c.args.colouring.now.edges.items c.requires.ready.few (reverse c.args.seen.now.items) c.args.slots.now c.in_ok-ends.ends c.requires.fits at).third
-
-pub push_vertex-requires-clause-admissible : goal.push_vertex-requires-clause-admissible
-push_vertex-requires-clause-admissible c =
-    let p = c.args.colouring.now.params.now in
-    let at = subst (λ es. AreAtVertex (strands_at p es) (reverse c.args.seen.now.items) c.args.slots.now c.in_ok-ends.ends) c.deref-2.ensures.value (c.in_ok-ends.ensures.names p) in
-    (fits_vertex p c.args.colouring.now.edges.items c.requires.ready.few (reverse c.args.seen.now.items) c.args.slots.now c.in_ok-ends.ends c.requires.fits at).admissible
+    let fits = fits_vertex p c.args.colouring.now.edges.items c.requires.ready.few (reverse c.args.seen.now.items) c.args.slots.now c.in_ok-ends.ends c.requires.fits at in
+    record { first = fits.first; second = fits.second; third = fits.third; admissible = fits.admissible }
 
 pub returns-clause-nodes : goal.returns-clause-nodes
 returns-clause-nodes c =

@@ -1,5 +1,5 @@
 use Rattle.std.proofs.Common.{ap, length, arith}
-use Rattle.slide_laws.proofs.SlidDiagram.{distinct_short}
+use Rattle.slide_laws.proofs.FewLabels.{distinct_short}
 use Rattle.slide_band.proofs.edges.component_labels.Goals as goal
 
 pub returns-clause-few : goal.returns-clause-few

@@ -59,8 +59,8 @@ finished-requires-clause-first c =
     let is = r.moved in
     omega (arith, low, is)
 
-pub returns-clause-made : goal.returns-clause-made
-returns-clause-made c =
+pub returns : goal.returns
+returns c =
     let a = c.args in
     let r = c.requires in
     let v = c.unsigned_abs.ensures.value in
@@ -72,19 +72,7 @@ returns-clause-made c =
     let plane = planar_refusal item_slots (items_of made) in
     let told = answer_is a.framed.now r.diagram r.framed a.edges.edge a.edges.along r.passed a.edges.moved a.edges.over a.top a.pieces.now made a.at_edge a.at_along c.sign_of-sign.result (to_z w64 (of_z w64 c.slid_framing-framing.result))
     r.moved r.over r.top (c.deref.ensures.value ∙ c.in_ok-pieces.ensures) c.sign_of-sign.ensures (value ∙ c.slid_framing-framing.ensures) small in
-    ok_told c.finished.result _ _ plane c.finished.ensures.made c.finished.ensures.ok told
-
-pub returns-clause-refused : goal.returns-clause-refused
-returns-clause-refused c =
-    let a = c.args in
-    let r = c.requires in
-    let v = c.unsigned_abs.ensures.value in
-    let under = c.if-unsigned_abs-gt-GREATEST_FRAMING.false in
-    let fits = c.slid_framing-framing.type_inv in
-    let value : to_z w64 (of_z w64 c.slid_framing-framing.result) ≡ c.slid_framing-framing.result = omega (arith, ints, fits) in
-    let small = size_small (to_z w64 (of_z w64 c.slid_framing-framing.result)) (omega (arith, v, under)) in
-    let made = c.deref.result.now in
-    let plane = planar_refusal item_slots (items_of made) in
-    let told = answer_is a.framed.now r.diagram r.framed a.edges.edge a.edges.along r.passed a.edges.moved a.edges.over a.top a.pieces.now made a.at_edge a.at_along c.sign_of-sign.result (to_z w64 (of_z w64 c.slid_framing-framing.result))
-    r.moved r.over r.top (c.deref.ensures.value ∙ c.in_ok-pieces.ensures) c.sign_of-sign.ensures (value ∙ c.slid_framing-framing.ensures) small in
-    err_told c.finished.result _ _ plane c.finished.ensures.refused told
+    record {
+      made = ok_told c.finished.result _ _ plane c.finished.ensures.made c.finished.ensures.ok told;
+      refused = err_told c.finished.result _ _ plane c.finished.ensures.refused told;
+    }

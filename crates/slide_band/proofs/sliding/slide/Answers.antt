@@ -54,5 +54,5 @@ returns-clause-top c =
     let e = c.args.edge in
     let f = c.args.along in
     let diagram = subst IsDiagram (c.diagram.ensures.diagram ∙ c.planar-planar.ensures.planar) c.items.ensures.diagram in
-    ok_more c.slid_edges.result (slid framed e f) (λ done. top_of done.framed.items ≤ top_of framed.items + 768) c.slid_edges.ensures.made
+    ok_more c.slid_edges.result (slid framed e f) (λ done. top_of done.framed.items ≤ top_of framed.items + 512) c.slid_edges.ensures.made
     (λ done ok. (known framed e f diagram c.planar-planar.ensures.framed c.requires done ok).top)

@@ -1,5 +1,4 @@
-use Rattle.std.proofs.Common.{◌≡◌, ◌+◌, ◌<◌, pos, ◌*ℤ◌, [], length, get_or, drop, refl, sym, ap, ap₂, subst, ◌∙◌, arith, inl, inr, ⊎_elim}
-use Rattle.std.proofs.lemmas.List.{drop_more}
+use Rattle.std.proofs.Common.{◌≡◌, ◌+◌, ◌<◌, pos, ◌*ℤ◌, [], length, get_or, sym, ap, ap₂, subst, ◌∙◌, arith, inl, inr, ⊎_elim}
 use Rattle.ring_identities.specs.Residues.{residue}
 use Rattle.planar_check.specs.Components.{greatest}
 use Rattle.skein_network.specs.Refusals.{net_refusal}
@@ -7,28 +6,20 @@ use Rattle.strand_algebra.specs.Projectors.{inverse_of}
 use Rattle.wenzl_table.specs.Inverses.{IsFirstCommon}
 use Rattle.tetra_reader.specs.Tetras.{faces_of}
 use Rattle.tetra_sum.specs.Nets.{theta_net, theta}
-use Rattle.tetra_sum.specs.Refusals.{first_of, face_refusal, face_refusal_at}
+use Rattle.tetra_sum.specs.Refusals.{face_refusal, face_refusal_at}
 use Rattle.tetra_sum.specs.Sums.{text_labels, colours_at, theta_inverse_at}
-use Rattle.tetra_sum.proofs.KeptNotes.{keeps_itself, keeps_twice}
+use Rattle.tetra_sum.proofs.FactorSteps.{along_start, along_next, along_refused}
 use Rattle.tetra_sum.proofs.NetTurns.{ready_face, no_common}
-use Rattle.tetra_sum.proofs.ProductSteps.{no_product, product_more}
 use Rattle.tetra_sum.proofs.ReadyNets.{faces_at_most}
-use Rattle.tetra_sum.proofs.Walks.{passed_one, stopped_at}
 use Rattle.tetra_sum.proofs.products.theta_inverses.Goals as goal
 
 pub loop-i-init : goal.loop-i-init
 loop-i-init c =
     let p = c.args.table.now.params in
-    let low = p.meets.modulus.0 in
-    record {
-      of = c.requires.of;
-      kept = keeps_itself c.args.notes.now;
-      net = c.requires.net;
-      store = c.requires.store;
-      value = no_product p.modulus (theta_inverse_at p (text_labels c.args.tetra.now) c.args.colouring.now.colours.now) (omega (arith, low));
-      below = omega (arith, low);
-      left = refl;
-    }
+    let vs = c.args.tetra.now in
+    let labels = text_labels vs in
+    let colours = c.args.colouring.now.colours.now in
+    along_start c.args.table.now theta_net (theta_inverse_at p labels colours) (face_refusal_at p labels c.args.colouring.now.number colours) (faces_of vs) c.args.notes.now c.args.store.now c.requires.of c.requires.net c.requires.store
 
 pub overflow_cast-face : goal.overflow_cast-face
 overflow_cast-face c =
@@ -67,6 +58,7 @@ pub returns-in-Err-clause-refused : goal.returns-in-Err-clause-refused
 returns-in-Err-clause-refused c =
     let p = c.args.table.now.params in
     let vs = c.args.tetra.now in
+    let labels = text_labels vs in
     let i = c.loop-i.i in
     let colours = c.args.colouring.now.colours.now in
     let number = c.args.colouring.now.number in
@@ -75,35 +67,24 @@ returns-in-Err-clause-refused c =
     let at = c.face_colours-colours.ensures ∙ ap₂ (λ ls fs. colours_at ls colours (get_or fs i [])) c.requires.labels c.faces-faces.ensures.faces in
     ⊎_elim inl
     (λ e. inr
-    (c.loop-i.invariant.left
-    ∙ ap (first_of (face_refusal_at p (text_labels vs) number colours) (i + 1)) (drop_more (faces_of vs) i [] below)
-    ∙ stopped_at (face_refusal_at p (text_labels vs) number colours) (i + 1) (get_or (faces_of vs) i []) (drop (i + 1) (faces_of vs)) c.in-Err.fault (sym (ap (face_refusal p number (i + 1)) at) ∙ e)))
+    (along_refused c.args.table.now theta_net (theta_inverse_at p labels colours) (face_refusal_at p labels number colours) (faces_of vs) c.args.notes.now c.loop-i.notes c.loop-i.store i c.loop-i.product below
+    c.loop-i.invariant c.in-Err.fault (sym (ap (face_refusal p number (i + 1)) at) ∙ e)))
     c.in-Err.ensures.refused
 
 pub loop-i-preserved : goal.loop-i-preserved
 loop-i-preserved c =
     let p = c.args.table.now.params in
     let vs = c.args.tetra.now in
+    let labels = text_labels vs in
     let i = c.loop-i.i in
     let colours = c.args.colouring.now.colours.now in
     let number = c.args.colouring.now.number in
-    let low = p.meets.modulus.0 in
     let count = ap length c.faces-faces.ensures.faces in
     let below : i < length (faces_of vs) = omega (arith, count, c.loop-i-test.true) in
     let at = c.face_colours-colours.ensures ∙ ap₂ (λ ls fs. colours_at ls colours (get_or fs i [])) c.requires.labels c.faces-faces.ensures.faces in
     let ring_is : c.ring.result.now ≡ p.modulus = c.ring.ensures ∙ ap (λ q. q.modulus) c.params.ensures in
     let found = c.in-Ok.ensures in
-    record {
-      of = c.inverse_theta.ensures.of;
-      kept = keeps_twice c.args.notes.now c.loop-i.notes c.inverse_theta.new.notes c.loop-i.invariant.kept c.inverse_theta.ensures.kept;
-      net = c.inverse_theta.ensures.net;
-      store = found.store;
-      value =
-          product_more p.modulus (theta_inverse_at p (text_labels vs) colours) (faces_of vs) i [] c.loop-i.product c.in-Ok.inverse c.mul-product.result (omega (arith, low)) below c.loop-i.invariant.value
-          (ap pos (found.value ∙ ap (λ list. inverse_of p.modulus (theta p list)) at)) (c.mul-product.ensures.product ∙ ap (λ m. residue m (pos c.loop-i.product *ℤ pos c.in-Ok.inverse)) ring_is);
-      below = omega (arith, c.mul-product.ensures.below, ring_is);
-      left =
-          c.loop-i.invariant.left
-          ∙ ap (first_of (face_refusal_at p (text_labels vs) number colours) (i + 1)) (drop_more (faces_of vs) i [] below)
-          ∙ passed_one (face_refusal_at p (text_labels vs) number colours) (i + 1) (get_or (faces_of vs) i []) (drop (i + 1) (faces_of vs)) (sym (ap (face_refusal p number (i + 1)) at) ∙ found.none);
-    }
+    along_next c.args.table.now theta_net (theta_inverse_at p labels colours) (face_refusal_at p labels number colours) (faces_of vs) c.args.notes.now c.loop-i.notes c.loop-i.store i c.loop-i.product below
+    c.loop-i.invariant c.inverse_theta.new.notes c.inverse_theta.new.store c.in-Ok.inverse c.mul-product.result c.inverse_theta.ensures.of c.inverse_theta.ensures.kept c.inverse_theta.ensures.net found.store
+    (ap pos (found.value ∙ ap (λ list. inverse_of p.modulus (theta p list)) at)) (sym (ap (face_refusal p number (i + 1)) at) ∙ found.none)
+    (c.mul-product.ensures.product ∙ ap (λ m. residue m (pos c.loop-i.product *ℤ pos c.in-Ok.inverse)) ring_is) (omega (arith, c.mul-product.ensures.below, ring_is))

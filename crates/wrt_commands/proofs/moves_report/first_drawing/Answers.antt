@@ -5,7 +5,7 @@ use Rattle.wrt_commands.specs.FramingFits.{fit_framings}
 use Rattle.wrt_commands.proofs.StageLemmas.{ends}
 use Rattle.wrt_commands.proofs.moves_report.first_drawing.Goals as goal
 
-pub returns-in_err-fit_framings-in-Some-clause-answer : goal.returns-in_err-fit_framings-in-Some-clause-answer
-returns-in_err-fit_framings-in-Some-clause-answer c =
-    let p = err_from_is_err_and c.from_residual.result c.from_residual.ensures.1 in
-    rw (p.1, c.in-Some.is) (ends (fit_framings c.args.plane c.in-Some.list) (λ framed. Ok (Framed framed)) _ p.0 p.2 (rw c.members.ensures at c.in_err-fit_framings-in-Some.ensures))
+pub returns-in_err-fit_framings-in-Surgery-clause-answer : goal.returns-in_err-fit_framings-in-Surgery-clause-answer
+returns-in_err-fit_framings-in-Surgery-clause-answer c =
+    let p = err_from_is_err_and c.from_residual-in_err-fit_framings-in-Surgery.result c.from_residual-in_err-fit_framings-in-Surgery.ensures.1 in
+    rw (p.1, c.in-Surgery.is) (ends (fit_framings c.args.plane c.in-Surgery.list) (λ framed. Ok (Framed framed)) _ p.0 p.2 (rw c.members-in-Surgery.ensures at c.in_err-fit_framings-in-Surgery.ensures))

@@ -3,4 +3,4 @@ use Rattle.pd_reader.proofs.ItemLabels.{unrefused_is_paired}
 use Rattle.pd_reader.proofs.diagram.Diagram.new.Goals as goal
 
 pub invariant_of-result : goal.invariant_of-result
-invariant_of-result c = rw c.in_ok-items.ensures.items (unrefused_is_paired item_labels HasItsSlots _ c.in_ok-check_items.ensures.ok c.in_ok-check_items.ensures.sized c.requires)
+invariant_of-result c = rw c.in_ok-checked.ensures.made (unrefused_is_paired item_labels HasItsSlots _ c.in_ok-checked.ensures.ok c.in_ok-checked.ensures.sized c.requires)

@@ -24,18 +24,18 @@ read_are xs diagram found read names read_2 leasts read_3 read_4 all r f n r2 l 
     found_are xs diagram names leasts all (n ∙ ap distinct (r ∙ f)) (l ∙ ap (map (component_least xs)) r2)
     (λ least e. own least (r4 ∙ (e ∙ ap (map least) (sym r3))) ∙ ap (filter (λ name. least name == name)) r3)
 
-pub least_in_walks-requires-clause-same_length : goal.least_in_walks-requires-clause-same_length
-least_in_walks-requires-clause-same_length c =
+pub least_in_cycles-requires-clause-same_length : goal.least_in_cycles-requires-clause-same_length
+least_in_cycles-requires-clause-same_length c =
     let cs = crossings_of c.args.items.now in
     after_long cs _ _ _ (lists_are cs c.args.places.now c.deref-5.result.now _ c.deref-6.result.now c.requires.places c.deref-5.ensures.value refl c.deref-6.ensures.value)
 
-pub least_in_walks-requires-clause-after_in_range : goal.least_in_walks-requires-clause-after_in_range
-least_in_walks-requires-clause-after_in_range c =
+pub least_in_cycles-requires-clause-after_in_range : goal.least_in_cycles-requires-clause-after_in_range
+least_in_cycles-requires-clause-after_in_range c =
     let cs = crossings_of c.args.items.now in
     after_in_range cs _ _ _ (lists_are cs c.args.places.now c.deref-5.result.now _ c.deref-6.result.now c.requires.places c.deref-5.ensures.value refl c.deref-6.ensures.value)
 
-pub least_in_walks-requires-clause-others_in_range : goal.least_in_walks-requires-clause-others_in_range
-least_in_walks-requires-clause-others_in_range c =
+pub least_in_cycles-requires-clause-others_in_range : goal.least_in_cycles-requires-clause-others_in_range
+least_in_cycles-requires-clause-others_in_range c =
     let cs = crossings_of c.args.items.now in
     others_in_range cs _ _ _ (lists_are cs c.args.places.now c.deref-5.result.now _ c.deref-6.result.now c.requires.places c.deref-5.ensures.value refl c.deref-6.ensures.value)
 

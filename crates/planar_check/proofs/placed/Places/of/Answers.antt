@@ -4,8 +4,8 @@ use Rattle.planar_check.proofs.PlaceLists.{AreRead, after_long, after_in_range, 
 use Rattle.planar_check.proofs.FaceLists.{faces_are}
 use Rattle.planar_check.proofs.placed.Places.of.Goals as goal
 
-pub least_in_faces-requires-clause-same_length : goal.least_in_faces-requires-clause-same_length
-least_in_faces-requires-clause-same_length g c =
+pub least_in_cycles-requires-clause-same_length : goal.least_in_cycles-requires-clause-same_length
+least_in_cycles-requires-clause-same_length g c =
     let cs = slot_lists g.I.Placed.slots_of c.args.items.now in
     let slots = c.in_ok-labels.ensures.slots in
     let are : AreRead cs c.deref-2.result.now c.in_ok-labels.field-0.owners.items c.deref-3.result.now = record {
@@ -15,8 +15,8 @@ least_in_faces-requires-clause-same_length g c =
     } in
     after_long cs _ _ _ are
 
-pub least_in_faces-requires-clause-after_in_range : goal.least_in_faces-requires-clause-after_in_range
-least_in_faces-requires-clause-after_in_range g c =
+pub least_in_cycles-requires-clause-after_in_range : goal.least_in_cycles-requires-clause-after_in_range
+least_in_cycles-requires-clause-after_in_range g c =
     let cs = slot_lists g.I.Placed.slots_of c.args.items.now in
     let slots = c.in_ok-labels.ensures.slots in
     let are : AreRead cs c.deref-2.result.now c.in_ok-labels.field-0.owners.items c.deref-3.result.now = record {
@@ -26,8 +26,8 @@ least_in_faces-requires-clause-after_in_range g c =
     } in
     after_in_range cs _ _ _ are
 
-pub least_in_faces-requires-clause-others_in_range : goal.least_in_faces-requires-clause-others_in_range
-least_in_faces-requires-clause-others_in_range g c =
+pub least_in_cycles-requires-clause-others_in_range : goal.least_in_cycles-requires-clause-others_in_range
+least_in_cycles-requires-clause-others_in_range g c =
     let cs = slot_lists g.I.Placed.slots_of c.args.items.now in
     let slots = c.in_ok-labels.ensures.slots in
     let are : AreRead cs c.deref-2.result.now c.in_ok-labels.field-0.owners.items c.deref-3.result.now = record {

@@ -3,18 +3,14 @@ use Rattle.planar_check.proofs.PlacesTold.{others_there, other_told}
 use Rattle.planar_check.proofs.planar.Planar.other_place.Goals as goal
 
 pub index-requires : goal.index-requires
-index-requires c =
-    let there = others_there c.self.view_is c.args.place c.requires c.self.inside.places c.self.invariant.2 in
-    let kept = c.self.inside.places.others.ok.0 in
-    omega (arith, there, kept)
+index-requires c = omega (arith, others_there c.self.view_is c.args.place c.requires c.self.inside.places c.self.invariant.2, c.self.inside.places.others.ok.0)
 
 pub overflow_cast-result : goal.overflow_cast-result
 overflow_cast-result c =
     let small : c.index.result.now < 2 ^ 32 = (other_told c.self.view_is c.args.place c.requires c.self.inside.places c.self.invariant.2 c.index.result.now c.index.ensures).small c.self.invariant.0 in
     search rules
 
-pub returns-clause-place : goal.returns-clause-place
-returns-clause-place c = (other_told c.self.view_is c.args.place c.requires c.self.inside.places c.self.invariant.2 c.index.result.now c.index.ensures).told
-
-pub returns-clause-in_range : goal.returns-clause-in_range
-returns-clause-in_range c = (other_told c.self.view_is c.args.place c.requires c.self.inside.places c.self.invariant.2 c.index.result.now c.index.ensures).in_range
+pub returns : goal.returns
+returns c =
+    let read = other_told c.self.view_is c.args.place c.requires c.self.inside.places c.self.invariant.2 c.index.result.now c.index.ensures in
+    record { place = read.told; in_range = read.in_range }
