@@ -1,28 +1,24 @@
 -- Codes: digits to base 32, and what a code tells of its pairing. Each digit is below 32, so the digits are the remainders that
 -- are taken off one by one, and pairings of one code have one list of digits.
 use Rattle.std.proofs.Common.{◌≡◌, ℕ, zero, suc, ◌+◌, ◌-◌, ◌*◌, ◌/◌, ◌%◌, ◌^◌, ◌≤◌, ◌<◌, List, [], ◌∷◌, take, drop, slice_set, ◌++◌, length, slice_index, refl, sym, ap, ◌∙◌, arith, add-one, length-drop}
-use Rattle.arc_pairing.specs.Codes.{code_of, digits_of, OneCodeLaw}
+use Rattle.arc_pairing.specs.Codes.{code_of, digits_of, weight, OneCodeLaw}
 use Rattle.std.proofs.lemmas.List.{take_more_set, length-take-le}
 use Rattle.arc_pairing.specs.Pairings.{IsShortPairing}
 
-abbrev cap : ℕ → ℕ
-cap zero = 1
-cap (suc n) = 32 * cap n
+pub weight_up : (n k : ℕ) → weight n ≤ weight (n + k)
+weight_up n zero = let e : n + 0 ≡ n = omega arith in let c = ap weight e in omega (arith, c)
+weight_up n (suc k) = let ih = weight_up n k in let e : n + suc k ≡ suc (n + k) = omega arith in let c = ap weight e in omega (arith, ih, c)
 
-cap_le : (n k : ℕ) → cap n ≤ cap (n + k)
-cap_le n zero = let e : n + 0 ≡ n = omega arith in let c = ap cap e in omega (arith, c)
-cap_le n (suc k) = let ih = cap_le n k in let e : n + suc k ≡ suc (n + k) = omega arith in let c = ap cap e in omega (arith, ih, c)
-
-digits_cap : (xs : List ℕ) → ((i : ℕ) → i < length xs → slice_index xs i < 32) → digits_of xs + 1 ≤ cap (length xs)
-digits_cap [] h = omega arith
-digits_cap (x ∷ xs) h = let ih = digits_cap xs (λ i l. h (suc i) (omega arith)) in let k : x < 32 = h 0 (omega arith) in omega (arith, ih, k)
+digits_below : (xs : List ℕ) → ((i : ℕ) → i < length xs → slice_index xs i < 32) → digits_of xs + 1 ≤ weight (length xs)
+digits_below [] h = omega arith
+digits_below (x ∷ xs) h = let ih = digits_below xs (λ i l. h (suc i) (omega arith)) in let k : x < 32 = h 0 (omega arith) in omega (arith, ih, k)
 
 pub digits_small : (xs : List ℕ) → ((i : ℕ) → i < length xs → slice_index xs i < 32) → length xs ≤ 24 → digits_of xs < 2 ^ 120
 digits_small xs h l =
-    let d = digits_cap xs h in
-    let c = cap_le (length xs) (24 - length xs) in
+    let d = digits_below xs h in
+    let c = weight_up (length xs) (24 - length xs) in
     let e : length xs + (24 - length xs) ≡ 24 = omega arith in
-    let f = ap cap e in
+    let f = ap weight e in
     omega (arith, d, c, f)
 
 get_drop : (xs : List ℕ) (k i : ℕ) → slice_index (drop k xs) i ≡ slice_index xs (k + i)

@@ -1,7 +1,8 @@
 -- What `glue` knows when it returns: the mates of the slots that are left tell the partners by parts. Each fact is one on slots of
 -- the gluing, read at the lists that the calls gave.
-use Rattle.std.proofs.Common.{◌≡◌, ℕ, ◌≤◌, ◌<◌, List, ◌++◌, map, length, slice_index, sym, ap, subst, ◌∙◌, ⊎_elim, arith}
+use Rattle.std.proofs.Common.{◌≡◌, ℕ, ◌≤◌, ◌<◌, if◌then◌else◌, nat_lt, List, ◌++◌, map, length, slice_index, sym, ap, subst, ◌∙◌, ⊎_elim, arith}
 use Rattle.std.proofs.lemmas.Bool.{cases_lt}
+use Rattle.std.proofs.lemmas.Bool.Decides.{nat_tests}
 use Rattle.graph_parts.specs.Patterns.{closed_parts}
 use Rattle.arc_gluing.specs.Mates.{mates_after, loops_after, pairs_below}
 use Rattle.arc_gluing.specs.Pairings.{pair_edges, IsPairedBy, partners_of}
@@ -9,14 +10,9 @@ use Rattle.arc_gluing.specs.Seams.{IsSeam}
 use Rattle.list_lemmas.proofs.Items.{get_past}
 use Rattle.arc_gluing.proofs.Seamed.{paired, partners_are, loops, left_small}
 use Rattle.arc_gluing.proofs.Slots.{slots_are}
-use Rattle.arc_pairing.specs.Gluing.{Seam, glued_edges}
+use Rattle.kept_seams.specs.Kept.{Gives}
+use Rattle.arc_pairing.specs.Gluing.{Seam, glued_edges, IsGluing}
 use Rattle.arc_pairing.specs.Pairings.{IsShortPairing}
-
--- What a gluing found, the partners and how many loops closed, is the gluing by parts.
-pub record IsGluing (seam : Seam) (old term found : List ℕ) (count : ℕ) : Type 0 where
-  pub paired : IsPairedBy (glued_edges seam old term) seam.outer found
-  pub partners : found ≡ partners_of (seam.inner ++ seam.ends) (glued_edges seam old term) seam.outer
-  pub closed : count ≡ closed_parts (seam.inner ++ seam.ends) (glued_edges seam old term) seam.outer
 
 module _ (inner ends outer end_slots outer_slots places : List ℕ) (h : IsSeam inner ends outer end_slots outer_slots places) where
   pub end_slots_small : (es : List ℕ) → es ≡ end_slots → (i : ℕ) → slice_index es i < 48
@@ -28,6 +24,27 @@ module _ (inner ends outer end_slots outer_slots places : List ℕ) (h : IsSeam 
       (λ (l : i < length end_slots). let b = slots.within i (omega (arith, w, l)) in omega (arith, at, b, f, g))
       (λ (l : length end_slots ≤ i). let e = get_past end_slots i l in omega (arith, at, e))
       (cases_lt i (length end_slots))
+
+  -- each point its partner, each other slot itself
+  abbrev mate : List ℕ → ℕ → ℕ
+  mate old x = if nat_lt x (length inner) then slice_index old x else x
+
+  parts_pair : (old term found : List ℕ) → IsShortPairing old → IsShortPairing term → length old ≡ length inner → length term ≡ length ends →
+      found ≡ partners_of (inner ++ ends) (pair_edges inner old ++ pair_edges ends term) outer → IsPairedBy (pair_edges inner old ++ pair_edges ends term) outer found
+  parts_pair old term found po pt lo lt is =
+      let Q : List ℕ → Type 0 = λ p. IsPairedBy (pair_edges inner old ++ pair_edges ends term) outer p in
+      let at_old : (i : ℕ) → i < length inner → mate old i ≡ slice_index old i = (λ i l. grind (arith, nat_tests, l)) in
+      let at_new : (x : ℕ) → length inner ≤ x → x < 48 → mate old x ≡ x = (λ x l m. grind (arith, nat_tests, l)) in
+      subst Q (partners_are inner ends outer end_slots outer_slots places old term h po.paired pt.paired lo lt (mate old) at_old at_new ∙ sym is)
+      (paired inner ends outer end_slots outer_slots places old term h po.paired pt.paired lo lt (mate old) at_old at_new)
+
+  -- WHERE THE POINTS KEEP THEIR PLACES, what the laws give is the gluing
+  pub kept_gluing : (seam : Seam) → (let s : Seam = record { inner = inner; ends = ends; outer = outer } in s) ≡ seam → (old term found : List ℕ) (loops : ℕ) →
+      IsShortPairing old → IsShortPairing term → length old ≡ length seam.inner → length term ≡ length seam.ends →
+      Gives inner ends outer old term found loops → IsGluing seam old term found loops
+  kept_gluing seam view old term found loops po pt lo lt k =
+      let P : Seam → Type 0 = λ s. length old ≡ length s.inner → length term ≡ length s.ends → IsGluing s old term found loops in
+      subst P view (λ lo2 lt2. record { paired = parts_pair old term found po pt lo2 lt2 (sym k.pairing); partners = sym k.pairing; closed = sym k.closed }) lo lt
 
   module _ (seam : Seam) (view : (let s : Seam = record { inner = inner; ends = ends; outer = outer } in s) ≡ seam)
       (old points term pairs es ls : List ℕ) (points_are : points ≡ old) (pairs_are : pairs ≡ term) (es_are : es ≡ end_slots) (ls_are : ls ≡ outer_slots)

@@ -3,6 +3,9 @@ pub mod Steps
 pub mod Mirrors
 pub mod SeamLists
 pub mod CodeDigits
+pub mod Spelling
+pub mod KeptSeams
+pub mod FourChanges
 pub mod Joins
 pub mod FirstMates
 pub mod GluedPairings

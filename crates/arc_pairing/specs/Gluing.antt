@@ -3,11 +3,13 @@
 --
 --     Seam                        the names of the points before, the names of the node's ends, and the names that are left
 --     glued_edges seam old term   the pairs of the old pairing and of the term, as edges between names
+--     IsGluing seam old term found loops    the partners found and the number of loops are those of the joined pairs
 --     open_name_count names       how many names are open, since they stand once: 1 of 5, 5, 7
-use Rattle.std.specs.Prelude.{ℕ, ◌==◌, List, ◌++◌}
+use Rattle.std.specs.Prelude.{◌≡◌, ℕ, ◌==◌, List, ◌++◌}
 use Rattle.std.specs.List.{count_by}
 use Rattle.list_lemmas.specs.Times.{times_in}
-use Rattle.arc_gluing.specs.Pairings.{pair_edges}
+use Rattle.graph_parts.specs.Patterns.{closed_parts}
+use Rattle.arc_gluing.specs.Pairings.{pair_edges, IsPairedBy, partners_of}
 
 -- The names of the points before, the names of the node's ends, and the names that are left.
 pub record Seam : Type 0 where
@@ -18,6 +20,12 @@ pub record Seam : Type 0 where
 -- The pairs of the old pairing and of the term.
 abbrev pub glued_edges : Seam → List ℕ → List ℕ → List (ℕ × ℕ)
 glued_edges seam old term = pair_edges seam.inner old ++ pair_edges seam.ends term
+
+-- What a gluing found, the partners and how many loops closed, is the gluing by parts.
+pub record IsGluing (seam : Seam) (old term found : List ℕ) (loops : ℕ) : Type 0 where
+  pub paired : IsPairedBy (glued_edges seam old term) seam.outer found
+  pub partners : found ≡ partners_of (seam.inner ++ seam.ends) (glued_edges seam old term) seam.outer
+  pub closed : loops ≡ closed_parts (seam.inner ++ seam.ends) (glued_edges seam old term) seam.outer
 
 -- How many names are open.
 abbrev pub open_name_count : List ℕ → ℕ

@@ -1,8 +1,8 @@
 //! Pairings as numbers, for tables of them.
 
-ghost use Rattle.std.specs.Prelude.{◌≡◌, ◌<◌, ◌≤◌, ◌^◌, ℕ, List, length, slice_index, IfSome};
+ghost use Rattle.std.specs.Prelude.{◌≡◌, ◌*◌, ◌<◌, ◌≤◌, ◌^◌, ℕ, List, length, slice_index, slice_set, IfSome};
 ghost use Rattle.arc_pairing.specs.Pairings.{IsShortPairing};
-ghost use Rattle.arc_pairing.specs.Codes.{digits_of, code_of};
+ghost use Rattle.arc_pairing.specs.Codes.{digits_of, code_of, weight, Spells};
 
 use crate::limits::MOST_POINTS;
 use crate::pairing::Pairing;
@@ -26,16 +26,45 @@ fn digits(partner: &[u8]) -> u128
     sum
 }
 
+/// The code of a pairing with these partners.
+pub(crate) fn code_of(partner: &[u8]) -> u128
+    requires { IsShortPairing partner.now }
+    ensures { result ≡ code_of partner.now }
+{
+    digits(partner) + partner.len() as u128 * POINT
+}
+
+/// The digit at that place, with what it counts there.
+#[inline]
+fn placed(digit: u8, at: u8) -> u128
+    requires digit { digit < 32 }
+    requires at { at < MOST_POINTS }
+    ensures value { result ≡ digit * weight at }
+    ensures small { result < 2 ^ 120 }
+{
+    u128::from(digit) << (5 * u32::from(at))
+}
+
+/// The code with another digit at that place, where another one was.
+#[inline]
+pub(crate) fn changed(code: u128, at: u8, was: u8, is: u8) -> u128
+    requires spelled { (partner : List ℕ) × Spells code partner × (at < length partner) × (slice_index partner at ≡ was) }
+    requires is { is < 32 }
+    ensures { (partner : List ℕ) → Spells code partner → at < length partner → slice_index partner at ≡ was → Spells result (slice_set partner at is) }
+{
+    code + placed(is, at) - placed(was, at)
+}
+
 impl Pairing {
     /// The pairing as one number, which no other pairing has: the partners are its digits to base 32,
     /// the first one lowest, and the number of points stands above 24 such digits (this project's
     /// own). It takes no memory.
+    #[inline]
     pub fn code(&self) -> u128
         ensures value { result ≡ code_of self.now }
         ensures pairing { IsShortPairing self.now }
     {
-        let partner = self.partners();
-        digits(partner) + u128::from(self.len()) * POINT
+        self.code
     }
 
     /// The pairing that has this code, if one has. It takes no memory.

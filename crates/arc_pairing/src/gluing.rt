@@ -1,11 +1,14 @@
 //! Gluing a term to a pairing, and how often that was done.
 
-ghost use Rattle.std.specs.Prelude.{◌≡◌, ◌+◌, ◌<◌, ◌≤◌, ◌^◌, ◌++◌, ℕ, length, map, slice_index};
+ghost use Rattle.std.specs.Prelude.{◌≡◌, ◌≢◌, ◌+◌, ◌<◌, ◌≤◌, ◌^◌, ◌++◌, ℕ, List, length, map, slice_index};
 ghost use Rattle.graph_parts.specs.Patterns.{closed_parts};
 ghost use Rattle.arc_gluing.specs.Mates.{mates_after, loops_after, pairs_below};
 ghost use Rattle.arc_gluing.specs.Pairings.{IsPairedBy, partners_of};
-ghost use Rattle.arc_pairing.specs.Gluing.{glued_edges};
+ghost use Rattle.kept_seams.specs.Kept.{AreFour, IsKept, Gives};
+ghost use Rattle.arc_pairing.specs.Gluing.{glued_edges, IsGluing};
+ghost use Rattle.arc_pairing.specs.Pairings.{IsShortPairing};
 
+use crate::kept::Kept;
 use crate::limits::{MOST_POINTS, MOST_SLOTS};
 use crate::pairing::Pairing;
 use crate::seam::Seam;
@@ -133,6 +136,61 @@ fn places_of_mates(
     partners
 }
 
+/// Glues a term to the old pairing by mates, whatever the seam.
+fn glue_by_mates(old: &Pairing, term: &Pairing, seam: &Seam) -> Glued
+    requires old_fits { length old.now ≡ length seam.now.inner }
+    requires term_fits { length term.now ≡ length seam.now.ends }
+    ensures gluing { IsGluing seam.now old.now term.now result.pairing result.loops }
+    ensures few { result.loops ≤ MOST_POINTS }
+{
+    let points = old.partners();
+    let pairs = term.partners();
+    let mut mates = first_mates(points);
+    let loops = join_pairs(&mut mates, seam.end_slots.as_slice(), pairs);
+    let partners = places_of_mates(&mates, seam.outer_slots.as_slice(), &seam.places);
+    Glued {
+        pairing: Pairing::of(partners),
+        loops,
+    }
+}
+
+/// Glues a term to the old pairing where the points keep their places. A term that joins each glued end with the one
+/// that takes its place changes nothing; one that joins the glued ends pairs the partners of their points, or closes a
+/// loop where these are paired; and one that joins each glued end with the other new one exchanges the partners.
+#[inline]
+fn glue_kept(old: &Pairing, term: &Pairing, kept: Kept) -> Glued
+    requires s_in { kept.s < length old.now }
+    requires t_in { kept.t < length old.now }
+    requires apart { kept.s ≢ kept.t }
+    requires four { length term.now ≡ 4 }
+    requires places { AreFour kept.a kept.b kept.c kept.d }
+    ensures gives { (inner ends outer : List ℕ) → IsKept inner ends outer kept.s kept.t kept.a kept.b kept.c kept.d → length old.now ≡ length inner →
+        Gives inner ends outer old.now term.now result.pairing result.loops }
+    ensures few { result.loops ≤ 1 }
+    ensures pairings { IsShortPairing old.now × IsShortPairing term.now }
+{
+    let Kept { s, t, a, b, c, .. } = kept;
+    let _pairs = term.len();
+    let _points = old.len();
+    let other = term.partner(a);
+    if other == c {
+        Glued {
+            pairing: old.copy(),
+            loops: 0,
+        }
+    } else if other == b {
+        Glued {
+            pairing: old.joined(s, t),
+            loops: u32::from(old.partner(s) == t),
+        }
+    } else {
+        Glued {
+            pairing: old.crossed(s, t),
+            loops: 0,
+        }
+    }
+}
+
 /// Glues a term of a node to the old pairing: the pairs of both join the names of the seam, each of
 /// the names that are left gets the other one of its part as its partner, and the parts with no such
 /// name are the loops that close (this project's own; Kauffman and Lins join tangles so).
@@ -149,14 +207,9 @@ pub fn glue(old: &Pairing, term: &Pairing, seam: &Seam, turns: &mut Turns) -> Gl
     ensures few { result.loops ≤ MOST_POINTS }
     ensures turns { turns.new ≡ turns.old + 1 }
 {
-    let points = old.partners();
-    let pairs = term.partners();
-    let mut mates = first_mates(points);
-    let loops = join_pairs(&mut mates, seam.end_slots.as_slice(), pairs);
-    let partners = places_of_mates(&mates, seam.outer_slots.as_slice(), &seam.places);
     turns.count += 1;
-    Glued {
-        pairing: Pairing { partners },
-        loops,
+    match seam.kept {
+        Some(kept) => glue_kept(old, term, kept),
+        None => glue_by_mates(old, term, seam),
     }
 }

@@ -4,14 +4,17 @@
 //! of these; a network is a list of nodes in which every name stands exactly twice.
 #![tactic(auto)]
 
+mod changes;
 mod code;
 mod fault;
 mod gluing;
+mod kept;
 mod laws;
 mod limits;
 mod names;
 mod network;
 mod node;
+mod order;
 mod pairing;
 mod seam;
 #[cfg(test)]

@@ -4,6 +4,7 @@ ghost use Rattle.std.specs.Prelude.{◌≡◌, ◌<◌, ◌≤◌, ◌↔◌, �
 ghost use Rattle.state_sums.specs.Networks.{IsPairing};
 ghost use Rattle.arc_pairing.specs.Pairings.{IsPairedAt, IsFirstUnpaired, IsShortPairing, mirrored, IsNoncrossing};
 
+use crate::code::code_of;
 use crate::fault::PairingFault;
 use crate::limits::MOST_POINTS;
 use arrayvec::ArrayVec;
@@ -12,24 +13,28 @@ use std::marker::Model;
 /// A pairing of at most 24 points, numbered from 0 (Lickorish, ch. 13).
 ///
 /// Contracts see a pairing as the list of partners. Its type keeps that every point has a partner,
-/// which is another point and names it back. Pairings are ordered as these lists are, in dictionary
-/// order: 1,0,3,2 is less than 2,3,0,1, and 1,0 is less than both.
-#[derive(Drop, Debug, PartialEq, Eq, PartialOrd, Ord)]
+/// which is another point and names it back, and their code beside them. Pairings are ordered as these
+/// lists are, in dictionary order: 1,0,3,2 is less than 2,3,0,1, and 1,0 is less than both.
+#[derive(Drop, Debug)]
 pub struct Pairing {
     pub(crate) partners: ArrayVec<u8, MOST_POINTS>,
+    pub(crate) code: u128,
 }
 
 impl Model for Pairing {
-    ghost use Rattle.std.specs.Prelude.{ℕ, List};
+    ghost use Rattle.std.specs.Prelude.{◌≡◌, ℕ, List};
+    ghost use Rattle.arc_pairing.specs.Codes.{code_of};
     ghost use Rattle.arc_pairing.specs.Pairings.{IsShortPairing};
 
     ghost Value = { List ℕ };
 
     ghost view = { λ pairing. pairing.partners.items };
 
-    ghost inverse = { λ partner. record { partners = record { items = partner } } };
+    ghost inverse = { λ partner. record { partners = record { items = partner }; code = code_of partner } };
 
-    ghost invariant = { λ pairing. IsShortPairing pairing.partners.items };
+    ghost inverse_ok = { λ pairing kept i. record { partners = pairing.partners; code = kept.1 i } };
+
+    ghost invariant = { λ pairing. IsShortPairing pairing.partners.items × (code_of pairing.partners.items ≡ pairing.code) };
 }
 
 /// Whether the point has a partner that names it back.
@@ -41,7 +46,27 @@ fn is_paired(partner: &[u8], at: usize) -> bool
     other < partner.len() && other != at && usize::from(partner[other]) == at
 }
 
+/// An equal list, of at most 24 numbers.
+#[inline]
+pub(crate) fn copied(partners: &[u8]) -> ArrayVec<u8, MOST_POINTS>
+    requires { length partners.now ≤ MOST_POINTS }
+    ensures { result.items ≡ partners.now }
+{
+    let mut copies = ArrayVec::new();
+    let _fits = copies.try_extend_from_slice(partners);
+    copies
+}
+
 impl Pairing {
+    /// The pairing of these partners, with its code.
+    pub(crate) fn of(partners: ArrayVec<u8, MOST_POINTS>) -> Pairing
+        requires { IsShortPairing partners.items }
+        ensures { result ≡ partners.items }
+    {
+        let code = code_of(partners.as_slice());
+        Pairing { partners, code }
+    }
+
     /// The pairing in which point i has the partner `partner[i]`, for at most 24 points, from 0.
     ///
     /// `Long` holds how many points were given. `NotPairing` holds the first point whose partner is
@@ -69,7 +94,7 @@ impl Pairing {
         for other in partner {
             partners.push(*other);
         }
-        Ok(Pairing { partners })
+        Ok(Pairing::of(partners))
     }
 
     /// The number of points, at most 24. It takes no memory.
@@ -104,11 +129,10 @@ impl Pairing {
         ensures value { result ≡ self.now }
         ensures pairing { IsShortPairing self.now }
     {
-        let mut partners = ArrayVec::new();
-        for other in self.partners.as_slice() {
-            partners.push(*other);
+        Pairing {
+            partners: copied(self.partners.as_slice()),
+            code: self.code,
         }
-        Pairing { partners }
     }
 
     /// The mirror image, in which point i becomes point n-1-i of n. It takes no memory.
@@ -122,7 +146,7 @@ impl Pairing {
             let other = points[points.len() - 1 - at];
             partners.push(points.len() as u8 - 1 - other);
         }
-        Pairing { partners }
+        Pairing::of(partners)
     }
 
     /// Whether no two pairs cross: 3,2,1,0 and 1,0,3,2 are noncrossing, 2,3,0,1 is not. It takes no memory.

@@ -8,6 +8,7 @@ ghost use Rattle.arc_gluing.specs.Pairings.{AreOpen};
 ghost use Rattle.arc_gluing.specs.Seams.{place_in};
 ghost use Rattle.arc_pairing.specs.Gluing.{open_name_count};
 
+use crate::kept::Kept;
 use crate::limits::{MOST_POINTS, MOST_SLOTS};
 use arrayvec::ArrayVec;
 use list_lemmas::count_of;
@@ -32,21 +33,25 @@ pub struct Seam {
     pub(crate) end_slots: ArrayVec<u8, MOST_POINTS>,
     pub(crate) outer_slots: ArrayVec<u8, MOST_POINTS>,
     pub(crate) places: [u8; MOST_SLOTS],
+    pub(crate) kept: Option<Kept>,
 }
 
 impl Model for Seam {
-    ghost use Rattle.arc_pairing.specs.Gluing;
+    ghost use Rattle.std.specs.Prelude.{IfSome};
     ghost use Rattle.arc_gluing.specs.Seams.{IsSeam};
+    ghost use Rattle.kept_seams.specs.Kept.{IsKept};
+    ghost use Rattle.arc_pairing.specs.Gluing;
 
     ghost Value = { Gluing.Seam };
 
     ghost view = { λ seam. record { inner = seam.inner.items; ends = seam.ends.items; outer = seam.outer.items } };
 
-    ghost invariant = { λ seam. IsSeam seam.inner.items seam.ends.items seam.outer.items seam.end_slots.items seam.outer_slots.items seam.places };
+    ghost invariant = { λ seam. IsSeam seam.inner.items seam.ends.items seam.outer.items seam.end_slots.items seam.outer_slots.items seam.places
+        × IfSome seam.kept (λ kept. IsKept seam.inner.items seam.ends.items seam.outer.items kept.s kept.t kept.a kept.b kept.c kept.d) };
 }
 
 /// An equal list, of at most 24 names.
-fn copied(names: &[u32]) -> ArrayVec<u32, MOST_POINTS>
+pub(crate) fn copied(names: &[u32]) -> ArrayVec<u32, MOST_POINTS>
     requires { length names.now ≤ MOST_POINTS }
     ensures { result.items ≡ names.now }
 {
@@ -100,7 +105,7 @@ fn names_once(all: &[u32]) -> ArrayVec<u32, MOST_SLOTS>
 }
 
 /// The slot of a name, the first place at which it stands.
-fn slot_of(all: &[u32], name: u32) -> usize
+pub(crate) fn slot_of(all: &[u32], name: u32) -> usize
     ensures slot { result ≡ place_in all.now name }
     ensures bound { result ≤ length all.now }
 {
@@ -182,6 +187,7 @@ impl Seam {
         let end_slots = slots_of(all.as_slice(), ends);
         let outer_slots = slots_of(all.as_slice(), outer);
         let places = places_of(outer_slots.as_slice());
+        let kept = Kept::find(names, ends, outer);
         Seam {
             inner: copied(names),
             ends: copied(ends),
@@ -189,6 +195,7 @@ impl Seam {
             end_slots,
             outer_slots,
             places,
+            kept,
         }
     }
 

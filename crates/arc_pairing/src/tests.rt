@@ -142,6 +142,54 @@ fn gluings(rt: HostRuntime) -> Result<(), Fail> {
     Ok(())
 }
 
+/// The places in 1, 3, 5, 6, 7, 8 of the names 1, 7, 3, 8, 5, 6.
+const SORTED: [u8; 6] = [0, 4, 1, 5, 2, 3];
+
+/// At each pairing of six points, where the new ends take the places of the points that are glued, a gluing is the one
+/// whose names increase, listed in another order.
+#[test]
+fn kept_places(rt: HostRuntime) -> Result<(), Fail> {
+    let names = [1, 2, 3, 4, 5, 6];
+    let ends = [2, 4, 7, 8];
+    let kept = Seam::keeping(&names, &ends, &[1, 7, 3, 8, 5, 6]);
+    let sorted = Seam::of(&names, &ends)?;
+    let mut pairings = 0u32;
+    for number in 0..46_656u32 {
+        let mut digits = [0; 6];
+        let mut rest = number;
+        for digit in &mut digits {
+            *digit = (rest % 6) as u8;
+            rest /= 6;
+        }
+        let Ok(old) = Pairing::new(&digits) else {
+            continue;
+        };
+        pairings = pairings.wrapping_add(1);
+        for term in [[1, 0, 3, 2], [2, 3, 0, 1], [3, 2, 1, 0]] {
+            let term = Pairing::new(&term)?;
+            assert_eq!(rt; (old.len(), term.len()), (6, 4));
+            let fast = glue(&old, &term, &kept, &mut Turns::new());
+            let slow = glue(&old, &term, &sorted, &mut Turns::new());
+            assert_eq!(rt; fast.loops, slow.loops);
+            assert_eq!(rt;
+                Pairing::from_code(fast.pairing.code()).as_ref(),
+                Some(&fast.pairing)
+            );
+            assert_eq!(rt; (fast.pairing.len(), slow.pairing.len()), (6, 6));
+            for at in 0..6u8 {
+                let other = fast.pairing.partner(at);
+                assert!(rt; other < 6);
+                assert_eq!(rt;
+                    slow.pairing.partner(SORTED[usize::from(at)]),
+                    SORTED[usize::from(other)]
+                );
+            }
+        }
+    }
+    assert_eq!(rt; pairings, 15);
+    Ok(())
+}
+
 #[test]
 fn nodes_and_networks(rt: HostRuntime) -> Result<(), Fail> {
     let terms = [Term {
