@@ -9,7 +9,7 @@ set -eu
 runs=${1:-5}
 benches=$(cd "$(dirname "$0")" && pwd)
 top=$(dirname "$benches")
-below="graph_parts state_sums arc_gluing arc_pairing frontier_laws ring_identities residue_ring root_quantum plain_sum frontier_sweep"
+below="list_lemmas graph_parts state_sums arc_gluing arc_pairing kept_seams frontier_laws kept_tables ring_identities residue_ring root_quantum plain_sum frontier_sweep"
 
 copy=$(mktemp -d)
 trap 'rm -rf "$copy"' EXIT

@@ -65,7 +65,7 @@ add_all-longer m (item ∷ items) table =
     let l = add_in-length m item.0 item.1 table in
     grind (arith, ih, l)
 
-front_small_new : (m : ℕ) (items front rest : List (ℕ × ℕ)) (item : ℕ × ℕ) → items ≡ front ++ item ∷ rest → is_member ◌==◌ (keys_of (add_all m [] front)) item.0 ≡ false →
+pub front_small_new : (m : ℕ) (items front rest : List (ℕ × ℕ)) (item : ℕ × ℕ) → items ≡ front ++ item ∷ rest → is_member ◌==◌ (keys_of (add_all m [] front)) item.0 ≡ false →
     length (add_all m [] front) + 1 ≤ length (add_all m [] items)
 front_small_new m items front rest item e new =
     let a = ap (λ xs. length (add_all m [] xs)) e ∙ ap length (add_all-append m [] front (item ∷ rest)) in

@@ -30,7 +30,7 @@ pub record IsSpelled (nodes : List Node) (code : ℕ) : Type 0 where
   pub open_pairing : IsOpenPairing nodes (decoded code)
 
 -- A test that passes is passed by some item.
-found : {X : Type 0} (P : X → Type 0) (f : X → Bool) (xs : List X) → All P xs → list_any f xs ≡ true → (x : X) × P x × (f x ≡ true)
+pub found : {X : Type 0} (P : X → Type 0) (f : X → Bool) (xs : List X) → All P xs → list_any f xs ≡ true → (x : X) × P x × (f x ≡ true)
 found P f [] all t = absurd (grind (arith, t))
 found P f (x ∷ xs) all t =
     ⊎_elim
@@ -38,7 +38,7 @@ found P f (x ∷ xs) all t =
     (λ no. found P f xs (All-tail P x xs all) (grind (arith, t, no)))
     (cases_Bool (f x))
 
-keys-at : (table : List (ℕ × ℕ)) (i : ℕ) (d : ℕ × ℕ) → i < length table → slice_index (keys_of table) i ≡ (get_or table i d).0
+pub keys-at : (table : List (ℕ × ℕ)) (i : ℕ) (d : ℕ × ℕ) → i < length table → slice_index (keys_of table) i ≡ (get_or table i d).0
 keys-at [] i d l = absurd (omega arith)
 keys-at (e ∷ table) zero d l = refl
 keys-at (e ∷ table) (suc i) d l = keys-at table i d (omega arith)

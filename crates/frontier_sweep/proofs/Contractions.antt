@@ -6,7 +6,7 @@ use Rattle.std.specs.Set.{is_member}
 use Rattle.std.specs.Option.{unwrap_or}
 use Rattle.std.proofs.lemmas.List.{length-append}
 use Rattle.std.proofs.lemmas.List.Elements.{All-cons, All-nil}
-use Rattle.state_sums.specs.Networks.{Network, WeightsBelow}
+use Rattle.state_sums.specs.Networks.{Network, WeightsBelow, names_of}
 use Rattle.state_sums.specs.StateSums.{value}
 use Rattle.arc_pairing.specs.Nodes.{IsSmallNetwork}
 use Rattle.frontier_laws.specs.Orders.{View, node_at, view_after, taken, left_after, IsChosen, IsPartOrder}
@@ -14,13 +14,17 @@ use Rattle.frontier_laws.proofs.ChosenOrders.{IsChosen-more, IsChosen-none}
 use Rattle.frontier_laws.proofs.OpenNames.{AreOpen-open_names}
 use Rattle.frontier_laws.proofs.OrdersPlaces.{IsPartOrder-none, IsPartOrder-more, left_none, order_length}
 use Rattle.frontier_laws.proofs.OrdersTaken.{AreNodes-taken, AreFew-order, whole_value, whole_closed, shown_in_view}
-use Rattle.frontier_laws.proofs.TableEnds.{table_end_value}
+use Rattle.kept_tables.proofs.Ends.{end}
 use Rattle.frontier_laws.proofs.TableSteps.{table_of_none}
 use Rattle.frontier_laws.proofs.TurnSteps.{within_none}
 use Rattle.frontier_sweep.specs.Frontiers.{Frontier, IsFirst, IsFrontier, IsLimitAfter}
 use Rattle.frontier_sweep.specs.Rises.{IsRises, HasRises}
 use Rattle.frontier_sweep.proofs.FrontierLemmas.{risen}
-use Rattle.frontier_laws.specs.Tables.{IsTableOf}
+use Rattle.kept_tables.specs.KeptTables.{IsTableBy}
+use Rattle.std.proofs.lemmas.List.Sorted.{length_permutation}
+use Rattle.arc_gluing.specs.Pairings.{AreOpen}
+use Rattle.list_lemmas.specs.Times.{times_in}
+use Rattle.list_lemmas.proofs.Permuted.{permuted_times}
 use Rattle.frontier_sweep.specs.Sweeps.{IsStopped, stopped_at}
 use Rattle.frontier_laws.specs.Views.{IsView}
 use Rattle.frontier_sweep.specs.declared.fault.NotGlued.{NotGlued}
@@ -32,6 +36,10 @@ pub record IsContractedTo (answers : View → ℕ → Type 0) (m delta : ℕ) (n
   pub chosen : IsChosen answers network order
   pub whole : length order ≡ done
   pub is : IsFrontier m delta network order frontier count
+
+-- The table of no node.
+table_by_none : (m delta : ℕ) → IsTableBy m delta [] [] ((0, 1) ∷ [])
+table_by_none m delta = let h = table_of_none m delta in record { distinct = h.distinct; codes = h.codes; sums = h.sums }
 
 one_below : (m : ℕ) → 1 < m → All (λ (entry : ℕ × ℕ). entry.1 < m) ((0, 1) ∷ [])
 one_below m some = All-cons (λ (entry : ℕ × ℕ). entry.1 < m) (0, 1) [] some (All-nil (λ (entry : ℕ × ℕ). entry.1 < m))
@@ -49,7 +57,8 @@ first answers m delta network frontier some is = record {
     names_are = is.names_are;
     rises_are = subst (λ names. IsRises network frontier.left names frontier.rises) (sym is.names_are) (is.rises_are frontier.left);
     groups_are = is.groups_are;
-    table_of = subst (IsTableOf m delta []) (sym is.table_is) (table_of_none m delta);
+    places_open = subst (AreOpen []) (sym is.places_are) record { once = λ x. refl };
+    table_by = subst (λ places. IsTableBy m delta [] places frontier.table) (sym is.places_are) (subst (IsTableBy m delta [] []) (sym is.table_is) (table_by_none m delta));
     below = subst (All (λ entry. entry.1 < m)) (sym is.table_is) (one_below m some);
     count_is = refl;
     few_turns = omega arith;
@@ -104,17 +113,23 @@ module _ (answers : View → ℕ → Type 0) (m delta : ℕ) (network : Network)
 
   -- At the end all are taken.
   module _ (all : length network.nodes ≤ done) (small : IsSmallNetwork network) where
+    empty : (xs : List ℕ) → length xs ≡ 0 → xs ≡ []
+    empty [] e = refl
+    empty (x ∷ xs) e = absurd (omega (arith, e))
+
+    -- In which no name stands, a list is empty.
+    length-none : (xs : List ℕ) → ((x : ℕ) → times_in xs x ≡ times_in [] x) → length xs ≡ 0
+    length-none xs none = sym (length_permutation xs [] (permuted_times [] xs none))
+
     none_left : left_after (length network.nodes) h.order ≡ []
     none_left = empty (left_after (length network.nodes) h.order) (let l = order_length (length network.nodes) h.order h.is.part in let w = h.whole in omega (arith, l, w, all))
-      where
-        empty : (xs : List ℕ) → length xs ≡ 0 → xs ≡ []
-        empty [] e = refl
-        empty (x ∷ xs) e = absurd (omega (arith, e))
 
     -- AT THE END THE TABLE HAS THE VALUE
     pub summed : unwrap_or (lookup (◌==◌ 0) frontier.table) 0 * delta ^ network.free_loops % m ≡ value m delta network
     summed =
-        let none = whole_closed network h.order small.twice h.is.part none_left in
-        table_end_value m delta (taken network.nodes h.order) frontier.table h.is.table_of (AreNodes-taken network h.order small.twice h.is.part) (AreFew-order network h.order small.twice h.is.part)
-        (AreOpen-open_names (taken network.nodes h.order)) none network.free_loops
+        let nodes = taken network.nodes h.order in
+        let none : AreOpen (names_of nodes) [] = subst (AreOpen (names_of nodes)) (whole_closed network h.order small.twice h.is.part none_left) (AreOpen-open_names nodes) in
+        let places : frontier.places ≡ [] = empty frontier.places (length-none frontier.places (λ x. h.is.places_open.once x ∙ sym (none.once x))) in
+        end m delta network.free_loops nodes frontier.table (AreNodes-taken network h.order small.twice h.is.part) (AreFew-order network h.order small.twice h.is.part) none
+        (subst (λ places. IsTableBy m delta nodes places frontier.table) places h.is.table_by)
         ∙ whole_value network h.order small.twice h.is.part none_left m delta

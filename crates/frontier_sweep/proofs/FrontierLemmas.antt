@@ -1,23 +1,24 @@
 -- One step of a frontier: what it asks, where it stops, and what it leaves. A frontier is that of the nodes taken so far, so each
 -- is a law of these nodes and one more.
-use Rattle.std.proofs.Common.{◌≡◌, ◌≢◌, ℕ, ◌+◌, ◌*◌, ◌<◌, ◌≤◌, ◌==◌, true, false, List, [], ◌∷◌, ◌++◌, map, take, take_all, length, slice_index, get_or, sym, ap, subst, ◌∙◌, arith}
+use Rattle.std.proofs.Common.{◌≡◌, ◌≢◌, ℕ, ◌+◌, ◌*◌, ◌<◌, ◌≤◌, ◌==◌, true, false, List, [], ◌∷◌, ◌++◌, take_all, length, slice_index, get_or, sym, ap, subst, ◌∙◌, arith}
 use Rattle.std.specs.List.{All, remove}
 use Rattle.std.specs.List.Sorted.{IsStrictlyIncreasing}
-use Rattle.std.specs.Map.{keys_of}
 use Rattle.std.specs.Set.{is_member}
-use Rattle.std.proofs.lemmas.List.{get_or-map, get_or_default, take-map, length-map, length-append}
+use Rattle.std.proofs.lemmas.List.{get_or_default, length-append}
 use Rattle.std.proofs.Math.Nat.{mul-le-mul}
-use Rattle.std.proofs.lemmas.List.Elements.{All-get_or, All-nil}
-use Rattle.state_sums.specs.Networks.{Node, Network, Term, IsNode, WeightsBelow, names_of}
+use Rattle.std.proofs.lemmas.List.Elements.{All-get_or}
+use Rattle.state_sums.specs.Networks.{Node, Network, IsNode, WeightsBelow, names_of}
 use Rattle.arc_gluing.specs.Laws.{AreFew}
 use Rattle.arc_gluing.specs.Pairings.{AreOpen}
 use Rattle.arc_pairing.specs.Gluing.{Seam, open_name_count}
 use Rattle.arc_pairing.specs.Nodes.{IsShortNode, IsSmallNetwork}
 use Rattle.frontier_laws.specs.Orders.{node_at, taken, left_after, open_names, IsPartOrder}
-use Rattle.frontier_laws.specs.Tables.{IsTableOf, add_all, contribution, contributions}
+use Rattle.frontier_laws.specs.Tables.{contributions}
+use Rattle.kept_tables.specs.KeptTables.{IsTableBy, IsGathered}
+use Rattle.frontier_sweep.proofs.KeptPlaces.{count_more, count_open, few_more, open_more}
+use Rattle.frontier_sweep.proofs.TablesBy.{counted, gathered_by, gathered_count, overflowing, spelled}
 use Rattle.frontier_laws.specs.Turns.{IsWithinAt, IsWithin, IsWideAt, IsFullAt, open_count, pairing_count, turns, turns_of}
-use Rattle.frontier_laws.proofs.NextPairings.{seam_of}
-use Rattle.frontier_laws.proofs.OpenNames.{AreOpen-open_names, increasing-open_names, open_after, open_count-after, few_after}
+use Rattle.frontier_laws.proofs.OpenNames.{AreOpen-open_names, open_names-only}
 use Rattle.frontier_laws.proofs.OpenWith.{once_open}
 use Rattle.frontier_laws.specs.Rises.{rise}
 use Rattle.frontier_laws.proofs.Rises.{rise-open}
@@ -27,16 +28,11 @@ use Rattle.frontier_laws.proofs.OrdersPlaces.{IsPartOrder-more, below_left, left
 use Rattle.graph_parts.proofs.Distinct.{is_member-append}
 use Rattle.arc_gluing.proofs.EachState.{times_in-more}
 use Rattle.frontier_laws.proofs.OrdersTaken.{taken_more, AreNodes-taken, AreFew-order}
-use Rattle.frontier_laws.proofs.TableCounts.{table_length}
-use Rattle.frontier_laws.proofs.TableEnds.{entry_spelled}
-use Rattle.frontier_laws.proofs.TableLimits.{new_code_fits_at}
-use Rattle.frontier_laws.proofs.TableSteps.{table_after}
-use Rattle.frontier_laws.proofs.Tables.{add_all-append, add_all-below}
 use Rattle.frontier_laws.proofs.TurnSteps.{turns_after, within_after, wide_after, full_after}
 use Rattle.frontier_sweep.specs.Frontiers.{Frontier, IsFrontier, IsLimitAfter}
 use Rattle.frontier_sweep.specs.NotGluedNodes.{Explains}
 use Rattle.frontier_sweep.specs.Rises.{Rises, IsRises, IsAfter}
-use Rattle.frontier_sweep.specs.Steps.{IsReady, IsSeamOf, OverflowsIn, OverflowsAt}
+use Rattle.frontier_sweep.specs.Steps.{IsReady, IsSeamOf, OverflowsAt}
 use Rattle.frontier_sweep.specs.declared.fault.NotGlued.{NotGlued}
 use Rattle.frontier_sweep.specs.declared.fault.NotGlued.TheVariants.{Wide, Full, Memory}
 use Rattle.list_lemmas.specs.Times.{times_in}
@@ -110,14 +106,11 @@ module _ (m delta : ℕ) (network : Network) (order : List ℕ) (frontier : Fron
   narrow : open_count (taken network.nodes order) ≤ 24
   narrow = subst (λ nodes. open_count nodes ≤ 24) (take_all (length (taken network.nodes order)) (taken network.nodes order) (omega arith)) within_before.narrow
 
-  open_in : AreOpen (names_of (taken network.nodes order)) (open_names (taken network.nodes order))
-  open_in = AreOpen-open_names (taken network.nodes order)
-
-  open_out : AreOpen (names_of (taken network.nodes order ++ node ∷ [])) (open_names (taken network.nodes order ++ node ∷ []))
-  open_out = AreOpen-open_names (taken network.nodes order ++ node ∷ [])
+  narrow_places : length frontier.places ≤ 24
+  narrow_places = let c = count_open (taken network.nodes order) frontier.places h.places_open in let n = narrow in omega (arith, c, n)
 
   table_long : length frontier.table ≡ pairing_count (taken network.nodes order)
-  table_long = table_length m delta (taken network.nodes order) frontier.table ok few_before open_in narrow h.table_of
+  table_long = counted m delta (taken network.nodes order) frontier.places frontier.table ok few_before h.places_open narrow_places h.table_by
 
   few_pairings : length frontier.table ≤ 262144
   few_pairings =
@@ -126,14 +119,12 @@ module _ (m delta : ℕ) (network : Network) (order : List ℕ) (frontier : Fron
       omega (arith, w, e)
 
   -- THE NODE CAN BE GLUED
-  pub ready : IsReady m frontier.names node frontier.table count
+  pub ready : IsReady m frontier.places node frontier.table count
   ready = record {
-    few_names = subst (λ (names : List ℕ). length names ≤ 24) (sym h.names_are) narrow;
-    increasing = subst IsStrictlyIncreasing (sym h.names_are) (increasing-open_names (taken network.nodes order));
-    few = subst (λ (names : List ℕ). (x : ℕ) → times_in (names ++ node.ends) x ≤ 2) (sym h.names_are) (few_after (taken network.nodes order) node few);
-    codes = λ i small.
-        let s = entry_spelled m delta (taken network.nodes order) frontier.table h.table_of ok few_before open_in narrow i (0, 0) small in
-        record { again = s.again; short = s.open_pairing.short; whole = s.open_pairing.whole ∙ ap (λ (names : List ℕ). length names) (sym h.names_are) };
+    few_names = narrow_places;
+    single = λ x. let o = h.places_open.once x in grind (arith, nat_tests, o);
+    few = few_more (taken network.nodes order) node few frontier.places h.places_open;
+    codes = spelled m delta (taken network.nodes order) frontier.places frontier.table ok few_before h.places_open narrow_places h.table_by;
     coefficients = λ i small. All-get_or (λ (entry : ℕ × ℕ). entry.1 < m) frontier.table i (0, 0) small h.below;
     weights = subst (λ (node : Node). All (λ term. term.weight < m) node.terms) (sym t.node_is) (All-get_or (λ (node : Node). All (λ term. term.weight < m) node.terms) network.nodes place record { group = 0; ends = []; terms = [] } place_below t.weights);
     some = t.some;
@@ -142,46 +133,26 @@ module _ (m delta : ℕ) (network : Network) (order : List ℕ) (frontier : Fron
   }
 
   -- ---- where it stops
-  wide : (ends : ℕ) → 24 < open_name_count (frontier.names ++ node.ends) → ends ≡ open_name_count (frontier.names ++ node.ends) → IsWideAt (taken network.nodes (order ++ place ∷ [])) ends
+  wide : (ends : ℕ) → 24 < open_name_count (frontier.places ++ node.ends) → ends ≡ open_name_count (frontier.places ++ node.ends) → IsWideAt (taken network.nodes (order ++ place ∷ [])) ends
   wide ends many is =
-      let count : open_name_count (frontier.names ++ node.ends) ≡ open_count (taken network.nodes order ++ node ∷ []) =
-      ap (λ (names : List ℕ). open_name_count (names ++ node.ends)) h.names_are ∙ open_count-after (taken network.nodes order) node few in
-      subst (λ nodes. IsWideAt nodes ends) (sym more) (wide_after (taken network.nodes order) node ends h.within (sym count ∙ sym is) (omega (arith, many, is)))
+      let counted = count_more (taken network.nodes order) node few frontier.places h.places_open in
+      subst (λ nodes. IsWideAt nodes ends) (sym more) (wide_after (taken network.nodes order) node ends h.within (sym counted ∙ sym is) (omega (arith, many, is)))
 
-  -- A seam of the open names and the node is the one of the laws.
-  pub seam_is : (seam : Seam) → IsSeamOf frontier.names node.ends seam → seam ≡ seam_of (taken network.nodes order) node
-  seam_is seam is =
-      let inner = is.inner ∙ h.names_are in
-      let outer = open_after (taken network.nodes order) node few seam.outer (subst (λ (names : List ℕ). AreOpen (names ++ node.ends) seam.outer) h.names_are is.outer) is.ascending in
-      λ i. record { inner = inner i; ends = is.ends_are i; outer = outer i }
+  -- What a seam leaves is open with the node.
+  open_out : (seam : Seam) → IsSeamOf frontier.places node.ends seam → AreOpen (names_of (taken network.nodes order ++ node ∷ [])) seam.outer
+  open_out seam is = open_more (taken network.nodes order) node few frontier.places h.places_open seam.outer is.outer
 
-  narrow_after : (seam : Seam) → IsSeamOf frontier.names node.ends seam → open_count (taken network.nodes order ++ node ∷ []) ≤ 24
-  narrow_after seam is = subst (λ (seam : Seam). length seam.outer ≤ 24) (seam_is seam is) is.narrow
+  narrow_after : (seam : Seam) → IsSeamOf frontier.places node.ends seam → open_count (taken network.nodes order ++ node ∷ []) ≤ 24
+  narrow_after seam is = let c = count_open (taken network.nodes order ++ node ∷ []) seam.outer (open_out seam is) in let n = is.narrow in omega (arith, c, n)
 
-  full : OverflowsAt m delta frontier.names node frontier.table → IsFullAt (taken network.nodes (order ++ place ∷ []))
+  full : OverflowsAt m delta frontier.places node frontier.table → IsFullAt (taken network.nodes (order ++ place ∷ []))
   full over =
       let nodes = taken network.nodes order in
-      let seam = seam_of nodes node in
-      let inside = subst (λ seam. OverflowsIn m delta seam node.terms frontier.table) (seam_is over.seam over.is) over.over in
-      let entry = get_or frontier.table inside.entry (0, 0) in
-      let items = map (contribution delta seam entry) node.terms in
-      let done = contributions delta seam node.terms (take inside.entry frontier.table) in
-      let at = inside.over.at in
-      let none : Term = record { weight = 0; partner = [] } in
-      let term_in : at < length node.terms = (let w = inside.over.within in let l = length-map node.terms (contribution delta seam entry) in omega (arith, w, l)) in
-      let so_far : add_all m (add_all m [] done) (take at items) ≡ add_all m [] (done ++ map (contribution delta seam entry) (take at node.terms)) =
-      ap (add_all m (add_all m [] done)) (take-map (contribution delta seam entry) at node.terms) ∙ sym (add_all-append m [] done (map (contribution delta seam entry) (take at node.terms))) in
-      let item = get_or-map (contribution delta seam entry) node.terms at none (0, 0) term_in in
-      let new =
-      ap (λ (table : List (ℕ × ℕ)). is_member ◌==◌ (keys_of table) (contribution delta seam entry (get_or node.terms at none)).0) (sym so_far)
-      ∙ ap (λ (item : ℕ × ℕ). is_member ◌==◌ (keys_of (add_all m (add_all m [] done) (take at items))) item.0) (sym item)
-      ∙ inside.over.new in
-      let many = subst (λ (table : List (ℕ × ℕ)). 262144 ≤ length table) so_far inside.over.full in
-      let fits = new_code_fits_at nodes node ok node_ok few narrow (narrow_after over.seam over.is) open_in open_out m delta frontier.table h.table_of inside.entry at (0, 0) none inside.within term_in new in
-      subst IsFullAt (sym more) (full_after nodes node h.within (narrow_after over.seam over.is) (omega (arith, many, fits)))
+      let many = overflowing m delta nodes node frontier.places frontier.table ok node_ok few h.places_open narrow_places h.table_by over.seam over.is (open_out over.seam over.is) over.over in
+      subst IsFullAt (sym more) (full_after nodes node h.within (narrow_after over.seam over.is) many)
 
   -- A REASON AGAINST THE NODE IS A LIMIT THAT ITS PLACE MEETS
-  pub limit : (reason : NotGlued) → Explains m delta frontier.names node frontier.table reason → IsLimitAfter network (order ++ place ∷ []) reason
+  pub limit : (reason : NotGlued) → Explains m delta frontier.places node frontier.table reason → IsLimitAfter network (order ++ place ∷ []) reason
   limit (Wide ends) explains = wide ends explains.0 explains.1
   limit Full explains = full explains
   limit Memory explains = explains
@@ -192,18 +163,23 @@ module _ (m delta : ℕ) (network : Network) (order : List ℕ) (frontier : Fron
       ap (λ (left : List ℕ). remove left at) h.left_are
       ∙ sym (left_more (length network.nodes) order place at (subst (λ (left : List ℕ). at < length left) h.left_are in_range) (ap (λ left. slice_index left at) (sym h.left_are) ∙ here))
 
+  -- In their places and increasing the same names are open.
+  as_placed : (name : ℕ) → times_in frontier.names name ≡ times_in frontier.places name
+  as_placed name = ap (λ (names : List ℕ). times_in names name) h.names_are ∙ (AreOpen-open_names (taken network.nodes order)).once name ∙ sym (h.places_open.once name)
+
   -- A name that is no end of the node is open afterwards where it was before.
-  beside : (seam : Seam) → IsSeamOf frontier.names node.ends seam → (name : ℕ) → is_member ◌==◌ node.ends name ≡ false → is_member ◌==◌ seam.outer name ≡ is_member ◌==◌ frontier.names name
-  beside seam is name apart =
-      let both = times_in-append frontier.names node.ends name in
+  beside : (names : List ℕ) → AreOpen (frontier.places ++ node.ends) names → (name : ℕ) → is_member ◌==◌ node.ends name ≡ false → is_member ◌==◌ names name ≡ is_member ◌==◌ frontier.names name
+  beside names open_ name apart =
+      let both = times_in-append frontier.places node.ends name in
       let none = times_none node.ends name apart in
-      let outer = is.outer.once name in
+      let outer = open_.once name in
+      let same = as_placed name in
       let once = once_open (taken network.nodes order) frontier.names h.names_are name in
       let some = times_of_member name frontier.names in
       let only = member_of_times name frontier.names in
-      let some_outer = times_of_member name seam.outer in
-      let only_outer = member_of_times name seam.outer in
-      grind (arith, nat_tests, both, none, outer, once, some, only, some_outer, only_outer)
+      let some_outer = times_of_member name names in
+      let only_outer = member_of_times name names in
+      grind (arith, nat_tests, both, none, outer, same, once, some, only, some_outer, only_outer)
 
   -- A place that is left afterwards is another one that was left before.
   kept : (other : ℕ) → is_member ◌==◌ (left_after (length network.nodes) (order ++ place ∷ [])) other ≡ true → (is_member ◌==◌ frontier.left other ≡ true) × (other ≢ place)
@@ -216,9 +192,9 @@ module _ (m delta : ℕ) (network : Network) (order : List ℕ) (frontier : Fron
       )
 
   -- An end that it has too is open afterwards.
-  shared : (seam : Seam) → IsSeamOf frontier.names node.ends seam → (other : ℕ) → is_member ◌==◌ (left_after (length network.nodes) (order ++ place ∷ [])) other ≡ true → (name : ℕ) →
-      is_member ◌==◌ (node_at network.nodes other).ends name ≡ true → is_member ◌==◌ node.ends name ≡ true → is_member ◌==◌ seam.outer name ≡ true
-  shared seam is other in_next name in_other in_node =
+  shared : (names : List ℕ) → AreOpen (frontier.places ++ node.ends) names → (other : ℕ) → is_member ◌==◌ (left_after (length network.nodes) (order ++ place ∷ [])) other ≡ true → (name : ℕ) →
+      is_member ◌==◌ (node_at network.nodes other).ends name ≡ true → is_member ◌==◌ node.ends name ≡ true → is_member ◌==◌ names name ≡ true
+  shared names open_ other in_next name in_other in_node =
       let part_two = IsPartOrder-more (length network.nodes) (order ++ place ∷ []) other part_more in_next in
       let two = AreFew-order network ((order ++ place ∷ []) ++ other ∷ []) t.small.twice part_two name in
       let a = ap (λ nodes. times_in (names_of nodes) name) (taken_more network.nodes (order ++ place ∷ []) other ∙ ap (λ nodes. nodes ++ node_at network.nodes other ∷ []) more) in
@@ -226,46 +202,46 @@ module _ (m delta : ℕ) (network : Network) (order : List ℕ) (frontier : Fron
       let c = times_in-more (taken network.nodes order) node name in
       let d = times_of_member name (node_at network.nodes other).ends in_other in
       let e = times_of_member name node.ends in_node in
-      let both = times_in-append frontier.names node.ends name in
-      let before_open = open_in.once name in
-      let names = ap (λ (names : List ℕ). times_in names name) h.names_are in
-      let outer = is.outer.once name in
-      let only_outer = member_of_times name seam.outer in
-      grind (arith, nat_tests, two, a, b, c, d, e, both, before_open, names, outer, only_outer)
+      let both = times_in-append frontier.places node.ends name in
+      let before_open = h.places_open.once name in
+      let outer = open_.once name in
+      let only_outer = member_of_times name names in
+      grind (arith, nat_tests, two, a, b, c, d, e, both, before_open, outer, only_outer)
 
   -- What is left and open afterwards.
-  pub after_it : (seam : Seam) → IsSeamOf frontier.names node.ends seam → (at : ℕ) → at < length frontier.left → slice_index frontier.left at ≡ place →
-      IsAfter network.nodes place node.ends seam.outer frontier.names frontier.left (remove frontier.left at)
-  after_it seam is at in_range here =
+  pub after_it : (names : List ℕ) → AreOpen (frontier.places ++ node.ends) names → (at : ℕ) → at < length frontier.left → slice_index frontier.left at ≡ place →
+      IsAfter network.nodes place node.ends names frontier.names frontier.left (remove frontier.left at)
+  after_it names open_ at in_range here =
       let next = next_left at in_range here in
       record {
-        beside = beside seam is;
+        beside = beside names open_;
         kept = λ other in_next. kept other (subst (λ left. is_member ◌==◌ left other ≡ true) next in_next);
-        shared = λ other in_next. shared seam is other (subst (λ left. is_member ◌==◌ left other ≡ true) next in_next);
+        shared = λ other in_next. shared names open_ other (subst (λ left. is_member ◌==◌ left other ≡ true) next in_next);
       }
 
   -- THE FRONTIER WITH ONE NODE MORE
-  pub next_frontier : (seam : Seam) → IsSeamOf frontier.names node.ends seam → IsShortNode node → (at : ℕ) → at < length frontier.left → slice_index frontier.left at ≡ place →
-      (left names : List ℕ) → left ≡ remove frontier.left at → names ≡ seam.outer → (rises : Rises) → IsRises network left names rises →
-      (table : List (ℕ × ℕ)) → table ≡ add_all m [] (contributions delta seam node.terms frontier.table) → length table ≤ 262144 → (after : ℕ) → after ≡ count + length frontier.table * length node.terms →
-      IsFrontier m delta network (order ++ place ∷ []) record { left = left; names = names; table = table; rises = rises; groups = frontier.groups } after
-  next_frontier seam is short at in_range here left names left_is names_is rises rises_are table table_is few_after after after_is =
+  pub next_frontier : (seam : Seam) → IsSeamOf frontier.places node.ends seam → IsShortNode node → (at : ℕ) → at < length frontier.left → slice_index frontier.left at ≡ place →
+      (left names places : List ℕ) → left ≡ remove frontier.left at → AreOpen (frontier.places ++ node.ends) names → IsStrictlyIncreasing names → places ≡ seam.outer → (rises : Rises) → IsRises network left names rises →
+      (table : List (ℕ × ℕ)) → IsGathered m (contributions delta seam node.terms frontier.table) table → All (λ entry. entry.1 < m) table → length table ≤ 262144 → (after : ℕ) → after ≡ count + length frontier.table * length node.terms →
+      IsFrontier m delta network (order ++ place ∷ []) record { left = left; names = names; places = places; table = table; rises = rises; groups = frontier.groups } after
+  next_frontier seam is short at in_range here left names places left_is names_open ascending places_are rises rises_are table gathered below few_after after after_is =
       let nodes = taken network.nodes order in
-      let glued = ap (λ seam. add_all m [] (contributions delta seam node.terms frontier.table)) (seam_is seam is) in
-      let table_of : IsTableOf m delta (nodes ++ node ∷ []) table = subst (IsTableOf m delta (nodes ++ node ∷ [])) (sym (table_is ∙ glued)) (table_after nodes node ok node_ok few narrow open_in open_out m delta frontier.table h.table_of) in
-      let few_after_nodes = subst AreFew (sym more) few in
-      let long : length table ≡ pairing_count (nodes ++ node ∷ []) =
-      table_length m delta (nodes ++ node ∷ []) table (subst (All IsNode) more (AreNodes-taken network (order ++ place ∷ []) t.small.twice part_more)) few open_out (narrow_after seam is) table_of in
+      let placed : AreOpen (names_of (nodes ++ node ∷ [])) places = subst (AreOpen (names_of (nodes ++ node ∷ []))) (sym places_are) (open_out seam is) in
+      let table_by : IsTableBy m delta (nodes ++ node ∷ []) places table =
+      subst (λ places. IsTableBy m delta (nodes ++ node ∷ []) places table) (sym places_are)
+      (gathered_by m delta nodes node frontier.places frontier.table ok node_ok few h.places_open narrow_places h.table_by seam is (open_out seam is) table gathered) in
+      let long = gathered_count m delta nodes node frontier.places frontier.table ok node_ok few h.places_open narrow_places h.table_by seam is (open_out seam is) table gathered in
       let same : turns network (order ++ place ∷ []) ≡ turns_of nodes + pairing_count nodes * length node.terms = ap turns_of more ∙ turns_after nodes node in
       record {
         part = part_more;
         within = subst IsWithin (sym more) (within_after nodes node h.within (narrow_after seam is) (omega (arith, long, few_after)));
         left_are = left_is ∙ next_left at in_range here;
-        names_are = names_is ∙ ap (λ (seam : Seam). seam.outer) (seam_is seam is) ∙ ap open_names (sym more);
+        names_are = open_names-only (nodes ++ node ∷ []) names (open_more nodes node few frontier.places h.places_open names names_open) ascending ∙ ap open_names (sym more);
+        places_open = subst (λ nodes. AreOpen (names_of nodes) places) (sym more) placed;
         rises_are = rises_are;
         groups_are = h.groups_are;
-        table_of = subst (λ nodes. IsTableOf m delta nodes table) (sym more) table_of;
-        below = subst (All (λ entry. entry.1 < m)) (sym table_is) (add_all-below m (contributions delta seam node.terms frontier.table) [] t.some (All-nil (λ (entry : ℕ × ℕ). entry.1 < m)));
+        table_by = subst (λ nodes. IsTableBy m delta nodes places table) (sym more) table_by;
+        below = below;
         count_is = after_is ∙ ap (λ n. n + length frontier.table * length node.terms) h.count_is ∙ ap (λ n. turns network order + n * length node.terms) table_long ∙ sym same;
         few_turns =
             (let b = product_bound (length frontier.table) (length node.terms) 262144 1048576 few_pairings short.few_terms in

@@ -1,3 +1,5 @@
+pub mod Places
+pub mod Coded
 pub mod Choices
 pub mod Rises
 pub mod Groups

@@ -4,12 +4,11 @@
 --     Overflows m table items     one of the items, added behind those before it, has a new code where there are 262,144
 --     OverflowsIn m delta seam terms table   the terms glued to one of the entries of the table overflow the next one
 --     Spells points code          the code spells a pairing of that many points
---     IsSeamOf names ends seam    the seam of open names and the ends of a node
+--     IsSeamOf names ends seam    a seam of open names, in any order, and the ends of a node
 --     OverflowsAt m delta names node table   one of the entries does so, with such a seam
 --     IsReady m names node table count       the node can be glued to the table
 use Rattle.std.specs.Prelude.{◌≡◌, ℕ, ◌<◌, ◌≤◌, ◌==◌, false, List, [], ◌++◌, ◌^◌, length, map, take, get_or}
 use Rattle.std.specs.List.{All}
-use Rattle.std.specs.List.Sorted.{IsStrictlyIncreasing}
 use Rattle.std.specs.Map.{keys_of}
 use Rattle.std.specs.Set.{is_member}
 use Rattle.state_sums.specs.Networks.{Node, Term}
@@ -46,12 +45,11 @@ pub record Spells (points code : ℕ) : Type 0 where
   pub short : IsShortPairing (decoded code)
   pub whole : length (decoded code) ≡ points
 
--- The seam of open names and the ends of a node.
+-- A seam of open names and the ends of a node, which leaves what is open with both, in any order.
 pub record IsSeamOf (names ends : List ℕ) (seam : Seam) : Type 0 where
   pub inner : seam.inner ≡ names
   pub ends_are : seam.ends ≡ ends
   pub outer : AreOpen (names ++ ends) seam.outer
-  pub ascending : IsStrictlyIncreasing seam.outer
   pub narrow : length seam.outer ≤ MOST_POINTS
 
 -- With some seam of the open names and the node, an entry overflows the next table.
@@ -60,11 +58,11 @@ pub record OverflowsAt (m delta : ℕ) (names : List ℕ) (node : Node) (table :
   pub is : IsSeamOf names node.ends seam
   pub over : OverflowsIn m delta seam node.terms table
 
--- The node can be glued: of its ends and the open names none stands thrice, the codes spell pairings of the open names, all
+-- The node can be glued: no open name stands twice, of the ends and the open names none stands thrice, the codes spell pairings of the open names, all
 -- weights and coefficients are below m, and there is room for the table and the turns.
 pub record IsReady (m : ℕ) (names : List ℕ) (node : Node) (table : List (ℕ × ℕ)) (count : ℕ) : Type 0 where
   pub few_names : length names ≤ MOST_POINTS
-  pub increasing : IsStrictlyIncreasing names
+  pub single : (x : ℕ) → times_in names x ≤ 1
   pub few : (x : ℕ) → times_in (names ++ node.ends) x ≤ 2
   pub codes : (i : ℕ) → i < length table → Spells (length names) (get_or table i (0, 0)).0
   pub coefficients : (i : ℕ) → i < length table → (get_or table i (0, 0)).1 < m

@@ -13,6 +13,7 @@ ghost use Rattle.frontier_sweep.specs.Frontiers.{IsFirst, IsFrontier, IsLimitAft
 
 use crate::fault::NotGlued;
 use crate::groups::group_index;
+use crate::places::increasing;
 use crate::powers::LoopPowers;
 use crate::rises::Rises;
 use crate::step::glue_node;
@@ -24,13 +25,14 @@ use std::alloc::{AllocError, Global};
 use std::marker::Model;
 use std::mem;
 
-/// The places of the nodes that are left, increasing, the open names, increasing, the table of the pairings of
-/// these, by how much their number rises at each node, and where each group stands; beside it the table of the
-/// next step, so that none is made anew, and which no contract sees.
+/// The places of the nodes that are left, increasing, the open names, increasing, the same in the places that they
+/// keep, the table of the pairings of these, by how much their number rises at each node, and where each group
+/// stands; beside it the table of the next step, so that none is made anew, and which no contract sees.
 #[derive(Drop)]
 pub(crate) struct Frontier {
     left: Vec<u32>,
     names: ArrayVec<u32, MOST_POINTS>,
+    places: ArrayVec<u32, MOST_POINTS>,
     table: Table,
     next: Table,
     rises: Rises,
@@ -42,7 +44,7 @@ impl Model for Frontier {
 
     ghost Value = { Frontiers.Frontier };
 
-    ghost view = { λ frontier. record { left = frontier.left.items; names = frontier.names.items; table = frontier.table; rises = frontier.rises; groups = frontier.groups.items } };
+    ghost view = { λ frontier. record { left = frontier.left.items; names = frontier.names.items; places = frontier.places.items; table = frontier.table; rises = frontier.rises; groups = frontier.groups.items } };
 }
 
 /// The places from 0 on, so many.
@@ -83,6 +85,7 @@ impl Frontier {
         Ok(Frontier {
             left,
             names: ArrayVec::new(),
+            places: ArrayVec::new(),
             table,
             next: Table::new(alloc),
             rises,
@@ -124,10 +127,11 @@ impl Frontier {
             → IfErr result (IsLimitAfter network.now (order ++ place ∷ [])) }
     {
         let node = &network.nodes()[place as usize];
-        let names = self.names.as_slice();
+        let names = self.places.as_slice();
         let seam = glue_node(powers, names, node, &self.table, &mut self.next, turns)?;
         mem::swap(&mut self.table, &mut self.next);
-        self.names = seam.into_names();
+        self.places = seam.into_names();
+        self.names = increasing(self.places.as_slice());
         self.rises
             .refresh(network, self.names.as_slice(), node.ends(), place);
         let index = index_of(&self.left, place);

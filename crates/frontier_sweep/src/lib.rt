@@ -10,6 +10,7 @@ mod groups;
 mod laws;
 mod order;
 mod place_key;
+mod places;
 mod powers;
 mod rises;
 mod step;

@@ -1,7 +1,6 @@
 //! One step of the sweep: a node is glued to each pairing of a table.
 
 ghost use Rattle.std.specs.Prelude.{◌≡◌, ◌≢◌, ◌<◌, ◌≤◌, ◌+◌, ◌*◌, ◌^◌, ◌==◌, ℕ, [], length, map, take, get_or, false, ◌++◌, OnOk, IfOk, IfErr};
-ghost use Rattle.std.specs.List.Sorted.{IsStrictlyIncreasing};
 ghost use Rattle.list_lemmas.specs.Times.{times_in};
 ghost use Rattle.arc_pairing.specs.Nodes.{IsShortNode};
 ghost use Rattle.frontier_sweep.specs.NotGluedNodes.{Explains};
@@ -12,6 +11,7 @@ ghost use Rattle.frontier_laws.specs.Tables.{add_all, glued_item, contributions}
 ghost use Rattle.frontier_sweep.specs.Steps.{FitsSeam, Overflows, OverflowsIn, IsSeamOf, IsReady, Spells};
 
 use crate::fault::NotGlued;
+use crate::places::kept_seam;
 use crate::powers::LoopPowers;
 use crate::table::Table;
 use arc_pairing::{Node, Pairing, Seam, Term, Turns, glue};
@@ -51,7 +51,7 @@ fn glue_terms(
     for term in step.terms {
         let glued = glue(pairing, &term.pairing, step.seam, turns);
         let more = step.powers.scaled(coefficient, term.weight, glued.loops);
-        next.add(step.powers.ring(), glued.pairing.code(), more)?;
+        next.add(step.powers.ring(), glued.pairing, more)?;
     }
     Ok(())
 }
@@ -78,16 +78,19 @@ pub(crate) fn glue_table(
     ensures full { result ≡ Err NotGlued.Full → OverflowsIn step.entry.powers.now.modulus step.entry.powers.now.delta step.entry.seam.now step.entry.terms.now table.now }
 {
     for at in 0..table.len() {
-        // Each code of a table spells a pairing.
-        let (code, coefficient) = table.entry(at);
-        let pairing = Pairing::from_code(code).unwrap();
-        glue_terms(step, &pairing, coefficient, next, turns)?;
+        glue_terms(
+            step,
+            table.pairing(at),
+            table.coefficient_at(at),
+            next,
+            turns,
+        )?;
     }
     Ok(())
 }
 
 /// Glues the node to each pairing of the table, whose points have these names, and makes of it the next
-/// table. Answers the seam, whose names are then open.
+/// table. Answers the seam, whose names are then open, in their places.
 pub(crate) fn glue_node(
     powers: &LoopPowers,
     names: &[u32],
@@ -104,8 +107,8 @@ pub(crate) fn glue_node(
     ensures node { IsShortNode node.now }
     ensures refused { IfErr result (Explains powers.now.modulus powers.now.delta names.now node.now table.now) }
 {
-    let seam = Seam::of(names, node.ends())?;
     let terms = node.terms();
+    let seam = kept_seam(names, node)?;
     let step = Step {
         powers,
         seam: &seam,

@@ -5,29 +5,40 @@ ghost use Rattle.std.specs.List.{All};
 ghost use Rattle.std.specs.Map.{keys_of, lookup};
 ghost use Rattle.std.specs.Option.{unwrap_or};
 ghost use Rattle.std.specs.Set.{is_member};
+ghost use Rattle.arc_pairing.specs.Codes.{code_of};
+ghost use Rattle.arc_pairing.specs.Pairings.{IsShortPairing};
 ghost use Rattle.frontier_laws.specs.Tables.{add_in};
+ghost use Rattle.frontier_sweep.specs.Coded.{AreCoded};
 
 use crate::fault::NotGlued;
+use arc_pairing::Pairing;
 use frontier_laws::MOST_PAIRINGS;
 use indexmap::IndexMap;
 use residue_ring::Ring;
 use std::alloc::{AllocError, Global};
 use std::marker::Model;
 
-/// The coefficients of at most `MOST_PAIRINGS` pairings, by their codes, in the order in which they came.
+/// The coefficients of at most `MOST_PAIRINGS` pairings, by their codes, in the order in which they came, and
+/// beside them, in the same order, the pairings, so that none is read back from its code.
 ///
-/// Contracts see a table as the list of its entries, a code with a coefficient each.
+/// Contracts see a table as the list of its entries, a code with a coefficient each. Its type keeps that each
+/// code is that of the pairing at its place.
 #[derive(Drop)]
 pub(crate) struct Table {
     entries: IndexMap<u128, u64>,
+    pairings: Vec<Pairing>,
 }
 
 impl Model for Table {
     ghost use Rattle.std.specs.Prelude.{ℕ, List};
+    ghost use Rattle.std.specs.Map.{keys_of};
+    ghost use Rattle.frontier_sweep.specs.Coded.{AreCoded};
 
     ghost Value = { List (ℕ × ℕ) };
 
     ghost view = { λ table. table.entries.entries };
+
+    ghost invariant = { λ table. AreCoded (keys_of table.entries.entries) table.pairings.items };
 }
 
 impl Table {
@@ -37,6 +48,7 @@ impl Table {
     {
         Table {
             entries: IndexMap::new(alloc),
+            pairings: Vec::new(alloc),
         }
     }
 
@@ -44,9 +56,11 @@ impl Table {
     pub(crate) fn of_none(alloc: Global) -> Result<Table, AllocError>
         ensures { IfOk result (λ table. table ≡ (0, 1) ∷ []) }
     {
-        let mut table = Table::new(alloc);
-        table.entries.insert(0, 1)?;
-        Ok(table)
+        let mut entries = IndexMap::new(alloc);
+        let mut pairings = Vec::new(alloc);
+        entries.insert(0, 1)?;
+        pairings.push(Pairing::from_code(0).unwrap())?;
+        Ok(Table { entries, pairings })
     }
 
     /// How many pairings it has.
@@ -56,14 +70,26 @@ impl Table {
         self.entries.len()
     }
 
-    /// The entry at that place.
+    /// The pairing at that place.
     #[inline]
-    pub(crate) fn entry(&self, at: usize) -> (u128, u64)
+    pub(crate) fn pairing(&self, at: usize) -> &Pairing
         requires { at < length self.now }
-        ensures { result ≡ get_or self.now at (0, 0) }
+        ensures code { code_of result.now ≡ (get_or self.now at (0, 0)).0 }
+        ensures short { IsShortPairing result.now }
     {
-        let (code, coefficient) = self.entries.get_index(at).unwrap();
-        (*code, *coefficient)
+        let pairing = &self.pairings[at];
+        let _points = pairing.len();
+        pairing
+    }
+
+    /// The coefficient at that place.
+    #[inline]
+    pub(crate) fn coefficient_at(&self, at: usize) -> u64
+        requires { at < length self.now }
+        ensures { result ≡ (get_or self.now at (0, 0)).1 }
+    {
+        let (_code, coefficient) = self.entries.get_index(at).unwrap();
+        *coefficient
     }
 
     /// The coefficient at the code, and 0 where the code is not there.
@@ -81,26 +107,32 @@ impl Table {
         ensures { OnOk result (self.new ≡ []) }
     {
         self.entries.clear();
-        self.entries.reserve(room)
+        self.pairings.clear();
+        self.entries.reserve(room)?;
+        self.pairings.reserve(room)
     }
 
-    /// c more at the code, which is a residue, as all coefficients are. A new code goes last.
+    /// c more at the pairing, which is a residue, as all coefficients are. A new pairing goes last.
     #[inline]
-    pub(crate) fn add(&mut self, ring: &Ring, code: u128, more: u64) -> Result<(), NotGlued>
+    pub(crate) fn add(&mut self, ring: &Ring, pairing: Pairing, more: u64) -> Result<(), NotGlued>
         requires more { more < ring.now }
         requires below { All (λ entry. entry.1 < ring.now) self.old }
         requires few { length self.old ≤ MOST_PAIRINGS }
-        ensures added { OnOk result (self.new ≡ add_in ring.now code more self.old) }
+        ensures added { OnOk result (self.new ≡ add_in ring.now (code_of pairing) more self.old) }
         ensures few { OnOk result (length self.new ≤ MOST_PAIRINGS) }
         ensures narrow { (ends : ℕ) → result ≢ Err (NotGlued.Wide ends) }
-        ensures full { result ≡ Err NotGlued.Full → (is_member ◌==◌ (keys_of self.old) code ≡ false) × (MOST_PAIRINGS ≤ length self.old) }
+        ensures full { result ≡ Err NotGlued.Full → (is_member ◌==◌ (keys_of self.old) (code_of pairing) ≡ false) × (MOST_PAIRINGS ≤ length self.old) }
     {
+        let code = pairing.code();
         match self.entries.get_mut(&code) {
             Some(coefficient) => *coefficient = ring.add(*coefficient, more),
             None => {
-                if self.entries.len() >= MOST_PAIRINGS {
+                let len = self.entries.len();
+                if len >= MOST_PAIRINGS {
                     return Err(NotGlued::Full);
                 }
+                self.pairings.truncate(len);
+                self.pairings.push(pairing)?;
                 self.entries.insert(code, more)?;
             }
         }

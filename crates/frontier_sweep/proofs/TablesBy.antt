@@ -1,0 +1,106 @@
+-- A table of pairings of open names in their places: what its codes spell, and the table of one node more, which has as many entries
+-- as there are pairings, so that a new code where there are 262,144 is one too many.
+use Rattle.std.proofs.Common.{◌≡◌, ℕ, suc, ◌<◌, ◌≤◌, ◌==◌, true, false, List, [], ◌∷◌, ◌++◌, map, take, drop, length, get_or, sym, ap, subst, ◌∙◌, arith}
+use Rattle.std.specs.List.{All}
+use Rattle.std.specs.Map.{keys_of}
+use Rattle.std.specs.Set.{is_member}
+use Rattle.std.proofs.Math.Seq.{split_at}
+use Rattle.std.proofs.lemmas.Bool.Decides.{nat_tests}
+use Rattle.std.proofs.lemmas.List.{get_or-map, take-map, length-map}
+use Rattle.std.proofs.lemmas.List.Elements.{All-append, All-cons, All-nil, All-map, All-weaker}
+use Rattle.std.proofs.lemmas.Map.Entries.{length-keys_of}
+use Rattle.graph_parts.proofs.Ends.{is_member-get_or}
+use Rattle.state_sums.specs.Networks.{Node, Term, IsNode, names_of}
+use Rattle.state_sums.specs.StateSums.{states, state_edges}
+use Rattle.arc_gluing.specs.Laws.{AreFew}
+use Rattle.arc_gluing.specs.Pairings.{AreOpen, IsPairedBy, partners_of}
+use Rattle.arc_gluing.proofs.GluingLaws.{paired_states}
+use Rattle.arc_pairing.specs.Codes.{code_of}
+use Rattle.arc_pairing.specs.Gluing.{Seam}
+use Rattle.arc_pairing.specs.Pairings.{IsShortPairing}
+use Rattle.frontier_laws.specs.Tables.{decoded, add_all, contribution, contributions}
+use Rattle.frontier_laws.specs.Turns.{pairing_count}
+use Rattle.frontier_laws.proofs.Decoded.{decoded-code_of}
+use Rattle.frontier_laws.proofs.TableCounts.{front_small_new}
+use Rattle.frontier_laws.proofs.TableEnds.{found, keys-at}
+use Rattle.frontier_laws.proofs.TableLoops.{items_split}
+use Rattle.frontier_laws.proofs.Tables.{add_all-append}
+use Rattle.kept_seams.specs.AnyOrder.{pairings_by}
+use Rattle.kept_tables.specs.KeptTables.{IsTableBy, IsGathered, seam_by}
+use Rattle.kept_tables.proofs.Ends.{count}
+use Rattle.kept_tables.proofs.Gathered.{anew}
+use Rattle.kept_tables.proofs.Steps.{step}
+use Rattle.frontier_sweep.specs.Steps.{Spells, IsSeamOf, OverflowsIn}
+
+-- A pairing of so many points.
+record IsOfPoints (points : ℕ) (partner : List ℕ) : Type 0 where
+  short : IsShortPairing partner
+  whole : length partner ≡ points
+
+module _ (m delta : ℕ) (nodes : List Node) (names : List ℕ) (table : List (ℕ × ℕ)) (ok : All IsNode nodes) (few : AreFew nodes) (open_are : AreOpen (names_of nodes) names) (narrow : length names ≤ 24)
+    (h : IsTableBy m delta nodes names table) where
+  all_of_points : All (IsOfPoints (length names)) (pairings_by nodes names)
+  all_of_points =
+      let partner_of : List Term → List ℕ = λ state. partners_of (names_of nodes) (state_edges nodes state) names in
+      All-map (IsOfPoints (length names)) partner_of (states nodes)
+      (All-weaker (λ state. IsPairedBy (state_edges nodes state) names (partner_of state)) (λ state. IsOfPoints (length names) (partner_of state))
+      (λ state paired. record { short = record { short = (let w = paired.whole in omega (arith, w, narrow)); paired = paired.is_pairing }; whole = paired.whole })
+      (states nodes) (paired_states nodes names ok few open_are))
+
+  -- EACH CODE SPELLS A PAIRING OF THE OPEN NAMES
+  pub spelled : (i : ℕ) → i < length table → Spells (length names) (get_or table i (0, 0)).0
+  spelled i within =
+      let code = (get_or table i (0, 0)).0 in
+      let k = length-keys_of table in
+      let member : is_member ◌==◌ (keys_of table) code ≡ true =
+      sym (ap (is_member ◌==◌ (keys_of table)) (keys-at table i (0, 0) within)) ∙ is_member-get_or (keys_of table) i (omega (arith, within, k)) in
+      let s = found (IsOfPoints (length names)) (λ partner. code == code_of partner) (pairings_by nodes names) all_of_points (sym (h.codes code) ∙ member) in
+      let test = s.2 in
+      let is : code ≡ code_of s.0 = grind (arith, nat_tests, test) in
+      let read : decoded code ≡ s.0 = ap decoded is ∙ decoded-code_of s.0 s.1.short in
+      record { again = ap code_of read ∙ sym is; short = subst IsShortPairing (sym read) s.1.short; whole = ap (λ (partner : List ℕ). length partner) read ∙ s.1.whole }
+
+  -- It has as many entries as there are pairings.
+  pub counted : length table ≡ pairing_count nodes
+  counted = count m delta nodes names table ok few open_are narrow h
+
+module _ (m delta : ℕ) (nodes : List Node) (node : Node) (names : List ℕ) (table : List (ℕ × ℕ)) (ok : All IsNode nodes) (node_ok : IsNode node) (few : AreFew (nodes ++ node ∷ []))
+    (open_in : AreOpen (names_of nodes) names) (narrow : length names ≤ 24) (h : IsTableBy m delta nodes names table)
+    (seam : Seam) (is : IsSeamOf names node.ends seam) (open_out : AreOpen (names_of (nodes ++ node ∷ [])) seam.outer) where
+  seam_is : seam ≡ seam_by names node seam.outer
+  seam_is i = record { inner = is.inner i; ends = is.ends_are i; outer = seam.outer }
+
+  -- WHAT IS GATHERED IS THE TABLE OF ONE NODE MORE
+  pub gathered_by : (next : List (ℕ × ℕ)) → IsGathered m (contributions delta seam node.terms table) next → IsTableBy m delta (nodes ++ node ∷ []) seam.outer next
+  gathered_by next gathered =
+      step m delta nodes node names seam.outer table next ok node_ok few open_in open_out narrow h
+      (subst (λ seam. IsGathered m (contributions delta seam node.terms table) next) seam_is gathered)
+
+  -- It has as many entries as there are pairings.
+  pub gathered_count : (next : List (ℕ × ℕ)) → IsGathered m (contributions delta seam node.terms table) next → length next ≡ pairing_count (nodes ++ node ∷ [])
+  gathered_count next gathered =
+      count m delta (nodes ++ node ∷ []) seam.outer next (All-append IsNode nodes (node ∷ []) ok (All-cons IsNode node [] node_ok (All-nil IsNode))) few open_out is.narrow (gathered_by next gathered)
+
+  -- A NEW CODE WHERE THERE ARE 262,144 IS ONE TOO MANY
+  pub overflowing : OverflowsIn m delta seam node.terms table → 262144 < pairing_count (nodes ++ node ∷ [])
+  overflowing over =
+      let none : Term = record { weight = 0; partner = [] } in
+      let entry = get_or table over.entry (0, 0) in
+      let one : Term → ℕ × ℕ = contribution delta seam entry in
+      let at = over.over.at in
+      let term_in : at < length node.terms = (let w = over.over.within in let l = length-map node.terms one in omega (arith, w, l)) in
+      let done = contributions delta seam node.terms (take over.entry table) in
+      let front = done ++ map one (take at node.terms) in
+      let so_far : add_all m (add_all m [] done) (take at (map one node.terms)) ≡ add_all m [] front =
+      ap (add_all m (add_all m [] done)) (take-map one at node.terms) ∙ sym (add_all-append m [] done (map one (take at node.terms))) in
+      let new : is_member ◌==◌ (keys_of (add_all m [] front)) (one (get_or node.terms at none)).0 ≡ false =
+      ap (λ (table : List (ℕ × ℕ)). is_member ◌==◌ (keys_of table) (one (get_or node.terms at none)).0) (sym so_far)
+      ∙ ap (λ (item : ℕ × ℕ). is_member ◌==◌ (keys_of (add_all m (add_all m [] done) (take at (map one node.terms)))) item.0) (sym (get_or-map one node.terms at none (0, 0) term_in))
+      ∙ over.over.new in
+      let many = subst (λ (table : List (ℕ × ℕ)). 262144 ≤ length table) so_far over.over.full in
+      let items = contributions delta seam node.terms table in
+      let split = items_split delta seam node.terms (take over.entry table) entry table (drop (suc over.entry) table) (take at node.terms) (drop (suc at) node.terms) (get_or node.terms at none)
+      (split_at table over.entry (0, 0) over.within) (split_at node.terms at none term_in) in
+      let more = front_small_new m items front (map one (drop (suc at) node.terms) ++ contributions delta seam node.terms (drop (suc over.entry) table)) (one (get_or node.terms at none)) split new in
+      let long = gathered_count (add_all m [] items) (anew m items) in
+      omega (arith, many, more, long)
