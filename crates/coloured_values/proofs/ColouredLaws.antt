@@ -12,11 +12,11 @@ use Rattle.pd_reader.specs.declared.item.Item.{Item}
 use Rattle.pd_reader.specs.declared.item.Item.TheVariants.{Loop}
 use Rattle.pd_reader.specs.declared.item.NetItem.TheVariants as net_items
 use Rattle.pd_reader.specs.Items.{item_labels, net_item_labels, HasItsSlots}
-use Rattle.pd_reader.specs.Diagrams.{labels}
+use Rattle.pd_reader.specs.Diagrams.{labels, IsDiagram}
 use Rattle.planar_check.specs.Components.{greatest, component_least, least_labels, number_of}
 use Rattle.planar_check.proofs.FewComponents.{number_first, number_last}
 use Rattle.planar_check.proofs.Strands.{member_at_most}
-use Rattle.diagram_brackets.specs.Brackets.{bracket}
+use Rattle.diagram_brackets.specs.Brackets.{bracket, bracket_network}
 use Rattle.strand_algebra.specs.Projectors.{IsProjector}
 use Rattle.cables.specs.Strands.{Strands, strands_of, first_names, second_names}
 use Rattle.cables.specs.Cables.{cable, Fits, as_net, net_item}
@@ -28,7 +28,7 @@ use Rattle.cables.proofs.NumberedStrands.{first_length}
 use Rattle.cables.proofs.PlainCables.{plain_cable}
 use Rattle.cables.proofs.ProjectorBoxes.{projector_boxes}
 use Rattle.cables.proofs.SameCables.{AreAlike, same_cable}
-use Rattle.coloured_values.specs.Coloured.{colour_of, is_boxed, diagram_strands, coloured}
+use Rattle.coloured_values.specs.Coloured.{colour_of, is_boxed, diagram_strands, cabled, coloured}
 use Rattle.coloured_values.specs.Laws.{AllColoursOneLaw, AddedComponentLaw}
 use Rattle.coloured_values.proofs.AddedComponents.{component_least-added, number_of-added, number_of-last}
 use Rattle.coloured_values.proofs.CabledDiagrams.{labels-as_net, IsNet-as_net, few_colours, same_least, fits_from}
@@ -46,14 +46,13 @@ one_entry [] h i l = absurd (omega (arith, l))
 one_entry (c ∷ colours) h zero l = h.0
 one_entry (c ∷ colours) h (suc i) l = one_entry colours h.1 i (omega (arith, l))
 
--- ALL COLOURS ONE
-pub all_ones : AllColoursOneLaw
-unfolding coloured bracket
-all_ones p items colours diagram count ones =
+-- the cable with all colours 1 is the network of the bracket
+pub cabled_ones : (p : Parameters) (items : List Item) (colours : List ℕ) → IsDiagram items → length colours ≡ length (least_labels items)
+    → AllByRecursion (λ colour. colour ≡ 1) colours → cabled p items colours ≡ bracket_network p items
+cabled_ones p items colours diagram count ones =
     let strands : Strands = diagram_strands p items colours in
     let plain : Strands = strands_of (λ label. 1) (λ label. false) (projector_of p) in
-    ap (value p.modulus (loop_value p))
-    (same_cable strands plain refl p (as_net items)
+    same_cable strands plain refl p (as_net items)
     (all_labels (AreAlike strands plain) items (λ x m.
     let some = number_first items diagram.sizes x m in
     let most = number_last items x in
@@ -64,7 +63,12 @@ all_ones p items colours diagram count ones =
       second = ap₂ (λ k b. second_names k b x) one off;
       boxed = off;
     }))
-    ∙ plain_cable p (projector_of p) items diagram.sizes)
+    ∙ plain_cable p (projector_of p) items diagram.sizes
+
+-- ALL COLOURS ONE
+pub all_ones : AllColoursOneLaw
+unfolding coloured bracket
+all_ones p items colours diagram count ones = ap (value p.modulus (loop_value p)) (cabled_ones p items colours diagram count ones)
 
 module _ (items : List Item) (colours : List ℕ) (label n : ℕ) (sizes : AllByRecursion HasItsSlots items) (past : greatest (labels item_labels items) < label)
     (count : length colours ≡ length (least_labels items)) where
