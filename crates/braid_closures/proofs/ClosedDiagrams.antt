@@ -3,7 +3,7 @@
 -- The crossings of a word have, for each position that it touches, the position's label below the word and its beginning label above it,
 -- and the new labels between, each of these twice (`crossing_times`). At the beginning these two are one, and a loop has the label of an
 -- untouched position twice.
-use Rattle.std.proofs.Common.{◌≡◌, ◌≢◌, ℕ, zero, suc, ◌+◌, ◌-◌, ◌*◌, ◌<◌, ◌≤◌, ◌==◌, ◌||◌, ◌&&◌, Bool, true, false, cond, nat_lt, nat_le, ℤ, pos, negsuc, List, [], ◌∷◌, ◌++◌, get_or, length, set, refl, sym, ap, ap₂, ◌∙◌, arith, ⊎_elim, length-append, append_assoc, None}
+use Rattle.std.proofs.Common.{◌≡◌, ◌≢◌, ℕ, zero, suc, ◌+◌, ◌-◌, ◌*◌, ◌<◌, ◌≤◌, ◌==◌, ◌||◌, ◌&&◌, Bool, true, false, cond, nat_lt, nat_le, ℤ, pos, negsuc, List, [], ◌∷◌, ◌++◌, get_or, length, set, refl, sym, ap, ap₂, ◌∙◌, arith, ⊎_elim, length-append, append_assoc}
 use Rattle.std.specs.Int.RustNames.{unsigned_abs}
 use Rattle.std.specs.List.{AllByRecursion, range_with_len}
 use Rattle.std.specs.Set.{is_member}
@@ -17,9 +17,8 @@ use Rattle.list_lemmas.specs.Times.{times_in}
 use Rattle.list_lemmas.proofs.Times.{times_of_member, times_in-pair}
 use Rattle.pd_reader.specs.declared.item.Item.{Item}
 use Rattle.pd_reader.specs.declared.item.Item.TheVariants.{Loop}
-use Rattle.pd_reader.specs.Diagrams.{labels, IsLabel, IsDiagram, refusal}
+use Rattle.pd_reader.specs.Diagrams.{labels, IsLabel, IsDiagram}
 use Rattle.pd_reader.specs.Items.{item_labels, HasItsSlots}
-use Rattle.pd_reader.proofs.ItemLabels.{paired_is_unrefused}
 use Rattle.braid_trace.specs.Braids.{BraidWord, IsBraid}
 use Rattle.braid_closures.specs.Closures.{is_touched, new_label, unused_after, entry_item, relabelled, crossings, loops, closed}
 
@@ -328,9 +327,6 @@ closed_is_diagram braid is =
 
     two_of : (last x k : ℕ) → 1 ≤ k → k ≡ 2 * between 1 last x → k ≡ 2
     two_of last x k some e = grind (arith, nat_tests, some, e)
-
-pub closed_unrefused : (braid : BraidWord) → IsBraid braid → refusal item_labels (closed braid) ≡ None
-closed_unrefused braid is = paired_is_unrefused item_labels HasItsSlots (closed braid) (closed_is_diagram braid is)
 
 pub closed_from : (braid : BraidWord) (n k : ℕ) (word : List ℤ) → n ≡ braid.strands → k ≡ braid.strands → word ≡ braid.word →
     crossings (range_with_len 1 n) (n + 1) word ++ loops word 1 k ≡ closed braid

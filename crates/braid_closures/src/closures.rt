@@ -7,7 +7,7 @@ ghost use Rattle.braid_trace.specs.Braids.{IsBraid};
 ghost use Rattle.braid_closures.specs.Closures.{touches, is_touched, new_label, unused_after, entry_item, crossings, loops, closed};
 
 use braid_trace::Braid;
-use pd_reader::{Diagram, DiagramFault, Item};
+use pd_reader::{Diagram, Item};
 use std::alloc::{AllocError, Global};
 
 /// Whether the entry crosses the strand at a position.
@@ -130,10 +130,5 @@ pub fn closure(alloc: Global, braid: &Braid) -> Result<Diagram, AllocError>
     let word = braid.word();
     let mut items = crossings(alloc, braid.strands(), word)?;
     push_loops(&mut items, braid.strands(), word)?;
-    match Diagram::new(alloc, &items) {
-        Ok(diagram) => Ok(diagram),
-        Err(DiagramFault::TooMany { .. }) => unreachable!(),
-        Err(DiagramFault::Label { .. }) => unreachable!(),
-        Err(DiagramFault::Memory) => Err(AllocError),
-    }
+    Diagram::of_paired(alloc, &items)
 }

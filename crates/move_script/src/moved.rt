@@ -21,7 +21,7 @@ use crate::pull::pull;
 use crate::push::push;
 use crate::slide::slide_over;
 use diagram_moves::{Factor, MoveFault};
-use pd_reader::{Diagram, DiagramFault, Item};
+use pd_reader::{Diagram, Item};
 use planar_check::{Planar, check};
 use script_reader::Step;
 use std::alloc::{AllocError, Global};
@@ -84,19 +84,6 @@ fn change(alloc: Global, diagram: &Planar, step: &Step) -> Result<Changed, MoveF
     }
 }
 
-/// The diagram of items that are one.
-fn diagram_of(alloc: Global, items: &[Item]) -> Result<Diagram, AllocError>
-    requires { IsDiagram items.now }
-    ensures { IfOk result (λ diagram. diagram ≡ items.now) }
-{
-    match Diagram::new(alloc, items) {
-        Ok(diagram) => Ok(diagram),
-        Err(DiagramFault::Memory) => Err(AllocError),
-        Err(DiagramFault::TooMany { limit: _ }) => unreachable!(),
-        Err(DiagramFault::Label { label: _, count: _ }) => unreachable!(),
-    }
-}
-
 /// Makes a step with a planar diagram: the result with its factor. The step is no slide, which asks for framings.
 ///
 /// What each step gives and why it is refused, `diagram_moves` defines. The refusals of each step in their order are:
@@ -121,7 +108,7 @@ pub fn apply(alloc: Global, diagram: &Planar, step: &Step) -> Result<Moved, Move
     ensures greatest { IfOk result (λ moved. greatest (labels item_labels moved.items) ≤ greatest (labels item_labels diagram.now) + 4) }
 {
     let changed = change(alloc, diagram, step)?;
-    let new = diagram_of(alloc, &changed.items)?;
+    let new = Diagram::of_paired(alloc, &changed.items)?;
     let planar = check(alloc, new)?;
     Ok(Moved {
         diagram: planar,

@@ -8,7 +8,7 @@ ghost use Rattle.pd_reader.specs.Diagrams.{IsDiagram, IsNet, IsLabel, labels, re
 use crate::fault::DiagramFault;
 use crate::item::{Item, Labelled, NetItem};
 use crate::label::{labels, unpaired};
-use std::alloc::Global;
+use std::alloc::{AllocError, Global};
 use std::marker::Model;
 
 /// A link diagram as a list of at most 256 items, in which each label is 1 to 2,000,000 and stands
@@ -70,6 +70,18 @@ impl Diagram {
     {
         Ok(Diagram {
             items: checked(alloc, items)?,
+        })
+    }
+
+    /// The diagram with items which are one already, so that nothing is looked at again.
+    ///
+    /// The only error is want of memory.
+    pub fn of_paired(alloc: Global, items: &[Item]) -> Result<Diagram, AllocError>
+        requires { IsDiagram items.now }
+        ensures { IfOk result (λ diagram. diagram ≡ items.now) }
+    {
+        Ok(Diagram {
+            items: Vec::from_slice(alloc, items)?,
         })
     }
 

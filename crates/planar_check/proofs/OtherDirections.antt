@@ -118,7 +118,7 @@ module _ (xs : List Item) (diagram : IsDiagram xs) (into : ℕ → Bool) (direct
 abbrev once : Bool → ℕ
 once b = cond b 1 0
 
-abbrev value_if : Bool → Sign → ℤ
+abbrev pub value_if : Bool → Sign → ℤ
 value_if b g = cond b (sign_value g) (pos 0)
 
 one_more : (b : Bool) (g : Sign) (p m q n : ℕ) → q ≡ once (b && is_plus g) + p → n ≡ once (b && not (is_plus g)) + m → pos q -ℤ pos n ≡ value_if b g +ℤ (pos p -ℤ pos m)
@@ -127,7 +127,8 @@ one_more true signs.Minus p m q n e f = omega (arith, ints, e, f)
 one_more false signs.Plus p m q n e f = omega (arith, ints, e, f)
 one_more false signs.Minus p m q n e f = omega (arith, ints, e, f)
 
-between_cons : (a b : ℕ) (c : Signed) (cs : List Signed) → signs_between a b (c ∷ cs) ≡ value_if (is_between a b c) c.sign +ℤ signs_between a b cs
+-- a crossing more in a list counts its sign if it is between the two components
+pub between_cons : (a b : ℕ) (c : Signed) (cs : List Signed) → signs_between a b (c ∷ cs) ≡ value_if (is_between a b c) c.sign +ℤ signs_between a b cs
 between_cons a b c cs =
     let plus : Signed → Bool = λ s. is_between a b s && is_plus s.sign in
     let minus : Signed → Bool = λ s. is_between a b s && not (is_plus s.sign) in

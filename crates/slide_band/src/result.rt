@@ -17,7 +17,7 @@ ghost use Rattle.slide_laws.specs.Slides.{is_against, slid_framing};
 
 use crate::directing::items_of;
 use crate::ends::ends;
-use pd_reader::{Diagram, DiagramFault, Item};
+use pd_reader::{Diagram, Item};
 use planar_check::{Framed, FramedFault, Planar, Sign, check};
 use slide_laws::SlideFault;
 use slide_strands::Piece;
@@ -73,19 +73,6 @@ pub(crate) fn framings_with(
     Ok(framings)
 }
 
-/// The diagram of items that are one.
-fn diagram_of(alloc: Global, items: &[Item]) -> Result<Diagram, AllocError>
-    requires { IsDiagram items.now }
-    ensures { IfOk result (λ diagram. diagram ≡ items.now) }
-{
-    match Diagram::new(alloc, items) {
-        Ok(diagram) => Ok(diagram),
-        Err(DiagramFault::Memory) => Err(AllocError),
-        Err(DiagramFault::TooMany { limit: _ }) => unreachable!(),
-        Err(DiagramFault::Label { label: _, count: _ }) => unreachable!(),
-    }
-}
-
 /// The planar diagram of the pieces, or its refusal.
 pub(crate) fn planar_of(alloc: Global, pieces: &[Piece]) -> Result<Planar, SlideFault>
     requires { IsDiagram (items_of pieces.now) }
@@ -94,7 +81,7 @@ pub(crate) fn planar_of(alloc: Global, pieces: &[Piece]) -> Result<Planar, Slide
     ensures refused { IfErr result (λ fault. (fault ≡ SlideFault.Memory) ⊎ (option_map of_plane (planar_refusal item_slots (items_of pieces.now)) ≡ Some fault)) }
 {
     let items = items_of(alloc, pieces)?;
-    let diagram = diagram_of(alloc, &items)?;
+    let diagram = Diagram::of_paired(alloc, &items)?;
     let planar = check(alloc, diagram)?;
     Ok(planar)
 }

@@ -16,7 +16,7 @@ use Rattle.planar_check.specs.declared.sign.Signed.{Signed}
 use Rattle.planar_check.specs.Places.{labels_by_place, other_place, crossings_of}
 use Rattle.planar_check.specs.Components.{number_of}
 use Rattle.planar_check.specs.Tables.{sign_value}
-use Rattle.planar_check.specs.Signs.{enters, same_truth, sign_for, is_plus, signed_at, signed_crossings, is_between, signs_between}
+use Rattle.planar_check.specs.Signs.{enters, same_truth, sign_for, signed_at, signed_crossings, signs_between}
 use Rattle.slide_strands.specs.declared.strand.Strand.{Strand}
 use Rattle.slide_strands.specs.declared.strand.Piece.{Piece}
 use Rattle.slide_strands.specs.declared.strand.Piece.TheVariants.{Crossed, Free}
@@ -26,9 +26,9 @@ use Rattle.planar_check.specs.Directions.{opposite, IsDirection}
 use Rattle.slide_laws.specs.Directed.{items_of}
 use Rattle.slide_laws.proofs.DirectedItems.{standing-cons, ends_labels, is_end, count_ends, count_two, pair}
 use Rattle.planar_check.proofs.Directions.{by_walks, walk_directions, first_of}
+use Rattle.planar_check.proofs.OtherDirections.{between_cons}
 use Rattle.planar_check.proofs.OppositePlaces.{placed, places_twice, other_label, opposite_later}
 use Rattle.slide_laws.proofs.StartPieces.{ends_count}
-use Rattle.planar_check.specs.declared.sign.Sign.TheVariants as signs
 
 abbrev once : Bool → ℕ
 once b = cond b 1 0
@@ -275,21 +275,6 @@ module _ (its : List Item) (diagram : IsDiagram its) (whole : List Piece) (same 
       ∙ sum_from a b 0 whole (all_stand whole Numbered numbers)
 
 -- ---- sums between two components
-abbrev value_if : Bool → Sign → ℤ
-value_if b g = cond b (sign_value g) (pos 0)
-
-one_more : (b : Bool) (g : Sign) (p m q n : ℕ) → q ≡ once (b && is_plus g) + p → n ≡ once (b && not (is_plus g)) + m → pos q -ℤ pos n ≡ value_if b g +ℤ (pos p -ℤ pos m)
-one_more true signs.Plus p m q n e f = omega (arith, ints, e, f)
-one_more true signs.Minus p m q n e f = omega (arith, ints, e, f)
-one_more false signs.Plus p m q n e f = omega (arith, ints, e, f)
-one_more false signs.Minus p m q n e f = omega (arith, ints, e, f)
-
-between_cons : (a b : ℕ) (c : Signed) (cs : List Signed) → signs_between a b (c ∷ cs) ≡ value_if (is_between a b c) c.sign +ℤ signs_between a b cs
-between_cons a b c cs =
-    let plus : Signed → Bool = λ s. is_between a b s && is_plus s.sign in
-    let minus : Signed → Bool = λ s. is_between a b s && not (is_plus s.sign) in
-    one_more (is_between a b c) c.sign (count_by plus cs) (count_by minus cs) (count_by plus (c ∷ cs)) (count_by minus (c ∷ cs)) (sum_by-cons (λ s. once (plus s)) c cs) (sum_by-cons (λ s. once (minus s)) c cs)
-
 abbrev digit : Bool → ℤ
 digit b = cond b (pos 1) (pos 0)
 

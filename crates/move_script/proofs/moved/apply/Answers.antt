@@ -23,8 +23,8 @@ made_moved wanted moved (inr same) = sym same
 paired : (items : List Item) → IsDiagram items → IsPairedDiagram items
 paired items is = record { sizes = is.sizes; twice = is.twice }
 
-pub diagram_of-requires : goal.diagram_of-requires
-diagram_of-requires c =
+pub of_paired-requires : goal.of_paired-requires
+of_paired-requires c =
     let items = c.args.diagram.now in
     let made = made_moved (move items c.args.step.now) c.in_ok-changed.changed c.in_ok-changed.ensures.made in
     let room : fresh items + 3 ≤ 2000000 = omega (arith, c.requires.room) in
