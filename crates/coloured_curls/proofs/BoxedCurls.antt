@@ -104,7 +104,7 @@ module _ (group c : ℕ) (f : List Term) where
   reversed_R g = listed (λ j. g (c - j)) (reverse (R g)) n (length-reverse (R g) ∙ length-map-range_with_len g 0 n) (λ i l. reversed_list (R g) c i (length-map-range_with_len g 0 n) l ∙ ranged g n (c - i) (omega arith))
 
 -- arcs from a box's names go into the box
-box_merged : (m delta free group : ℕ) (f : List Term) (F E Y : List ℕ) (rest : List Node) → length E ≡ length Y → All IsNode (box_node group f F E ∷ rest) →
+pub box_merged : (m delta free group : ℕ) (f : List Term) (F E Y : List ℕ) (rest : List Node) → length E ≡ length Y → All IsNode (box_node group f F E ∷ rest) →
     ((z : ℕ) → 1 ≤ times_in E z + times_in Y z + (times_in F z + times_in E z) + times_in (names_of rest) z → times_in E z + times_in Y z + (times_in F z + times_in E z) + times_in (names_of rest) z ≡ 2) →
     value m delta record { nodes = arcs_of (zip E Y) ++ (box_node group f F E ∷ rest); free_loops = free } ≡ value m delta record { nodes = box_node group f F Y ∷ rest; free_loops = free }
 box_merged m delta free group f F E Y rest long ok twice =
@@ -357,7 +357,7 @@ module _ (p : Parameters) (free g k c : ℕ) (sign : Sign) (E W M F : List ℕ) 
   most : (z : ℕ) → among T 0 N z ≤ times_in (into sign) z + given u big z
   most z = let t = behind_most N u (v 0) big z (twist_among a b s N 0 c N (omega arith)) in let e = into_times z in omega (arith, t, e)
 
-  before : (z : ℕ) → 1 ≤ times_in E z + times_in W z + (times_in F z + times_in E z) + times_in (names_of rest) z → times_in E z + times_in W z + (times_in F z + times_in E z) + times_in (names_of rest) z ≡ 2
+  pub before : (z : ℕ) → 1 ≤ times_in E z + times_in W z + (times_in F z + times_in E z) + times_in (names_of rest) z → times_in E z + times_in W z + (times_in F z + times_in E z) + times_in (names_of rest) z ≡ 2
   before z one =
       let q = twists.whole_times a b s c few v h big R0 ok_0 meet low_v low_h low_rest grid_twice z in
       let e = into_times z in

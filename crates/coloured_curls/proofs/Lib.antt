@@ -9,6 +9,12 @@ pub mod ClosedTwists
 pub mod AbsorbedTwists
 pub mod BoxedCurls
 pub mod BoxedEdges
+pub mod LoopNodes
+pub mod BoxedLoops
+pub mod LetterRuns
+pub mod StubLetters
+pub mod StubSlides
+pub mod SlidLetters
 pub mod CurledBoxes
 mod Examples
 pub mod CurlLaws

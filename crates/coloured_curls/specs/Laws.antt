@@ -1,5 +1,5 @@
 -- The laws of curls of cables, at any names, and of a curl on an edge with a box.
-use Rattle.std.specs.Prelude.{◌≡◌, ℕ, suc, ◌+◌, ◌-◌, ◌*◌, ◌^◌, ◌%◌, ◌<◌, ◌≤◌, ◌==◌, Bool, true, Ok, List, ◌∷◌, ◌++◌, length, reverse, All}
+use Rattle.std.specs.Prelude.{◌≡◌, ℕ, suc, ◌+◌, ◌-◌, ◌*◌, ◌^◌, ◌%◌, ◌<◌, ◌≤◌, ◌==◌, Bool, true, false, Ok, List, ◌∷◌, ◌++◌, length, reverse, All}
 use Rattle.std.specs.List.{AllByRecursion, zip}
 use Rattle.std.specs.Set.{is_member}
 use Rattle.list_lemmas.specs.Times.{times_in}
@@ -76,4 +76,12 @@ abbrev pub BoxedEdgeLaw : Type 0
 BoxedEdgeLaw =
     (p : Parameters) (items : List Item) (e : ℕ) (sign : Sign) (moved : Moved) (colours : List ℕ) → IsDiagram items → fresh items + 3 ≤ 2000000 → HasColours items colours → AllByRecursion (HasProjector p) colours →
     is_boxed items colours e ≡ true → is_member ◌==◌ (crossing_labels items) e ≡ true → move items (Curl e sign) ≡ Ok moved →
+    coloured p moved.items colours ≡ numbers.twist p (colour_of items colours e) moved.factor.curl * coloured p items colours % p.modulus
+
+-- Curl on a Loop of colour n from 2 on multiplies the coloured value by mu_n to the power of the curl, where each colour has its projector; the other
+-- components have any colours.
+abbrev pub BoxedLoopLaw : Type 0
+BoxedLoopLaw =
+    (p : Parameters) (items : List Item) (e : ℕ) (sign : Sign) (moved : Moved) (colours : List ℕ) → IsDiagram items → fresh items + 3 ≤ 2000000 → HasColours items colours → AllByRecursion (HasProjector p) colours →
+    2 ≤ colour_of items colours e → is_member ◌==◌ (crossing_labels items) e ≡ false → move items (Curl e sign) ≡ Ok moved →
     coloured p moved.items colours ≡ numbers.twist p (colour_of items colours e) moved.factor.curl * coloured p items colours % p.modulus

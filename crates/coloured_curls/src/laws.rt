@@ -1,6 +1,6 @@
 //! The laws of curls of cables: each function has an empty body, and its contract is the law. They are stated in `specs/Laws.antt`.
 
-ghost use Rattle.coloured_curls.specs.Laws.{BoxedCrossingLaw, ClosedCrossingLaw, CurlBesideBoxLaw, BoxedEdgeLaw};
+ghost use Rattle.coloured_curls.specs.Laws.{BoxedCrossingLaw, ClosedCrossingLaw, CurlBesideBoxLaw, BoxedEdgeLaw, BoxedLoopLaw};
 
 /// A crossing of two neighbouring strands beside a projector's box is a factor, its weight of going straight on; the box then has the
 /// names behind the crossing (Lickorish, ch. 13).
@@ -23,4 +23,9 @@ pub fn boxed_edge()
 /// The cabled crossing of a curl beside a projector's box is `mu_n`, or its inverse, times the strands, at any names.
 pub fn curl_beside_box()
     ensures { CurlBesideBoxLaw }
+{}
+
+/// `Curl` on a Loop of colour n from 2 to 8 multiplies the coloured value by `mu_n`, or by its inverse for the sign `-`.
+pub fn boxed_loop()
+    ensures { BoxedLoopLaw }
 {}

@@ -1,0 +1,209 @@
+-- A crossing of two neighbouring strands at a stub of a diagram: the names of the stub change at two places, and the other crossings stay.
+--
+--     changed xs k left right        the list with other names at the places k and k+1
+--     put S w ys                     the strands with the names ys at the stub w
+--     parted                         the nodes of two lists of items, one behind the other
+use Rattle.std.proofs.Common.{◌≡◌, ◌≢◌, ℕ, zero, suc, ◌+◌, ◌-◌, ◌*◌, ◌/◌, ◌%◌, ◌<◌, ◌≤◌, ◌==◌, ◌⊎◌, inl, inr, ◌||◌, Bool, true, false, cond, List, [], ◌∷◌, ◌++◌, length, slice_index, refl, sym, ap, ap₂, ◌∙◌, arith, ⊎_elim, All, append_assoc}
+use Rattle.std.specs.List.{AllByRecursion}
+use Rattle.std.specs.Set.{is_member}
+use Rattle.std.proofs.lemmas.Bool.{cases_eq}
+use Rattle.std.proofs.lemmas.Bool.Decides.{nat_tests}
+use Rattle.std.proofs.lemmas.List.Elements.{All-weaker}
+use Rattle.list_lemmas.specs.Times.{times_in}
+use Rattle.list_lemmas.proofs.Times.{times_in-append, times_in-cons}
+use Rattle.state_sums.specs.Networks.{Node, IsNode}
+use Rattle.root_quantum.specs.Parameters.{Parameters}
+use Rattle.pd_reader.specs.declared.item.Item.{Item}
+use Rattle.pd_reader.specs.declared.item.Item.TheVariants as item
+use Rattle.pd_reader.specs.declared.item.NetItem.TheVariants.{X}
+use Rattle.pd_reader.specs.Items.{HasItsSlots}
+use Rattle.cables.specs.CableNodes.{crossing_cable}
+use Rattle.cables.specs.Cables.{Standing, loop_nodes, cable_nodes}
+use Rattle.cables.specs.Nets.{projector_of}
+use Rattle.cables.specs.Strands.{Strands}
+use Rattle.cables.proofs.CableIsNodes.{IsGood, cable_good}
+use Rattle.cables.proofs.NameCounts.{at}
+use Rattle.cables.proofs.ProjectorBoxes.{projector_boxes}
+use Rattle.diagram_moves.specs.Rewriting.{crossing_labels}
+use Rattle.diagram_moves.proofs.Paired.{loop_labels}
+use Rattle.cable_crossings.proofs.StepPieces.{All-first}
+use Rattle.coloured_moves.proofs.StubItems.{half, at_stub, stub_crossing, stub_nodes}
+
+-- ---- a list with two other names
+abbrev pub changed : List ℕ → ℕ → ℕ → ℕ → List ℕ
+changed [] k left right = []
+changed (x ∷ []) k left right = x ∷ []
+changed (x ∷ y ∷ xs) zero left right = left ∷ right ∷ xs
+changed (x ∷ y ∷ xs) (suc k) left right = x ∷ changed (y ∷ xs) k left right
+
+pub changed_length : (xs : List ℕ) (k left right : ℕ) → length (changed xs k left right) ≡ length xs
+changed_length [] k left right = refl
+changed_length (x ∷ []) k left right = refl
+changed_length (x ∷ y ∷ xs) zero left right = refl
+changed_length (x ∷ y ∷ xs) (suc k) left right = let ih = changed_length (y ∷ xs) k left right in omega (arith, ih)
+
+pub changed_first : (xs : List ℕ) (k left right : ℕ) → k + 1 < length xs → slice_index (changed xs k left right) k ≡ left
+changed_first [] k left right l = absurd (omega (arith, l))
+changed_first (x ∷ []) k left right l = absurd (omega (arith, l))
+changed_first (x ∷ y ∷ xs) zero left right l = refl
+changed_first (x ∷ y ∷ xs) (suc k) left right l = changed_first (y ∷ xs) k left right (omega (arith, l))
+
+pub changed_second : (xs : List ℕ) (k left right : ℕ) → k + 1 < length xs → slice_index (changed xs k left right) (suc k) ≡ right
+changed_second [] k left right l = absurd (omega (arith, l))
+changed_second (x ∷ []) k left right l = absurd (omega (arith, l))
+changed_second (x ∷ y ∷ xs) zero left right l = refl
+changed_second (x ∷ y ∷ xs) (suc k) left right l = changed_second (y ∷ xs) k left right (omega (arith, l))
+
+pub changed_other : (xs : List ℕ) (k left right i : ℕ) → i ≢ k → i ≢ k + 1 → slice_index (changed xs k left right) i ≡ slice_index xs i
+changed_other [] k left right i d e = refl
+changed_other (x ∷ []) k left right i d e = refl
+changed_other (x ∷ y ∷ xs) zero left right zero d e = absurd (d refl)
+changed_other (x ∷ y ∷ xs) zero left right (suc zero) d e = absurd (e (omega arith))
+changed_other (x ∷ y ∷ xs) zero left right (suc (suc i)) d e = refl
+changed_other (x ∷ y ∷ xs) (suc k) left right zero d e = refl
+changed_other (x ∷ y ∷ xs) (suc k) left right (suc i) d e = changed_other (y ∷ xs) k left right i (λ s. d (omega (arith, s))) (λ s. e (omega (arith, s)))
+
+pub changed_times : (xs : List ℕ) (k left right z : ℕ) → k + 1 < length xs → times_in (changed xs k left right) z + at z (slice_index xs k) + at z (slice_index xs (suc k)) ≡ times_in xs z + at z left + at z right
+changed_times [] k left right z l = absurd (omega (arith, l))
+changed_times (x ∷ []) k left right z l = absurd (omega (arith, l))
+changed_times (x ∷ y ∷ xs) zero left right z l =
+    let a = times_in-cons left (right ∷ xs) z in let b = times_in-cons right xs z in let c = times_in-cons x (y ∷ xs) z in let d = times_in-cons y xs z in
+    omega (arith, a, b, c, d)
+changed_times (x ∷ y ∷ xs) (suc k) left right z l =
+    let ih = changed_times (y ∷ xs) k left right z (omega (arith, l)) in
+    let a = times_in-cons x (changed (y ∷ xs) k left right) z in let b = times_in-cons x (y ∷ xs) z in
+    omega (arith, ih, a, b)
+
+pub four_times : (w a b c d : ℕ) → times_in (a ∷ b ∷ c ∷ d ∷ []) w ≡ at w a + at w b + at w c + at w d
+four_times w a b c d =
+    let k = times_in-cons a (b ∷ c ∷ d ∷ []) w in let l = times_in-cons b (c ∷ d ∷ []) w in let m = times_in-cons c (d ∷ []) w in let n = times_in-cons d [] w in
+    omega (arith, k, l, m, n)
+
+-- ---- other names at a stub
+abbrev pub put : Strands → ℕ → List ℕ → Strands
+put S w ys = record {
+  first = λ l. cond (2 * l == w) ys (S.first l);
+  second = λ l. cond (2 * l + 1 == w) ys (S.second l);
+  boxed = S.boxed;
+  box = S.box;
+}
+
+even_or_odd : (w : ℕ) → ((w ≡ 2 * half w) × (w % 2 ≡ 0)) ⊎ ((w ≡ 2 * half w + 1) × (w % 2 ≡ 1))
+even_or_odd w = parity (w % 2) (omega arith) (omega arith)
+  where
+    parity : (r : ℕ) → w ≡ 2 * half w + r → r < 2 → ((w ≡ 2 * half w) × (w % 2 ≡ 0)) ⊎ ((w ≡ 2 * half w + 1) × (w % 2 ≡ 1))
+    parity zero e l = inl (omega (arith, e), omega (arith, e))
+    parity (suc zero) e l = inr (e, omega (arith, e))
+    parity (suc (suc r)) e l = absurd (omega (arith, l))
+
+at_even : (S : Strands) (w : ℕ) → w % 2 ≡ 0 → at_stub S w ≡ S.first (half w)
+at_even S w e = ap (λ r. cond (r == 1) (S.second (half w)) (S.first (half w))) e
+
+at_odd : (S : Strands) (w : ℕ) → w % 2 ≡ 1 → at_stub S w ≡ S.second (half w)
+at_odd S w e = ap (λ r. cond (r == 1) (S.second (half w)) (S.first (half w))) e
+
+pub put_here : (S : Strands) (w : ℕ) (ys : List ℕ) → at_stub (put S w ys) w ≡ ys
+put_here S w ys =
+    ⊎_elim
+    (λ q. (let e = q.0 in at_even (put S w ys) w q.1 ∙ chosen (2 * half w) w (S.first (half w)) (omega (arith, e))))
+    (λ q. (let e = q.0 in at_odd (put S w ys) w q.1 ∙ chosen (2 * half w + 1) w (S.second (half w)) (omega (arith, e))))
+    (even_or_odd w)
+  where
+    chosen : (i w : ℕ) (xs : List ℕ) → i ≡ w → cond (i == w) ys xs ≡ ys
+    chosen i w xs e = grind (arith, nat_tests, e)
+
+pub put_other : (S : Strands) (w x : ℕ) (ys : List ℕ) → x ≢ w → at_stub (put S w ys) x ≡ at_stub S x
+put_other S w x ys d =
+    ⊎_elim
+    (λ q. (let e = q.0 in at_even (put S w ys) x q.1 ∙ passed (2 * half x) w (S.first (half x)) (λ s. d (omega (arith, s, e))) ∙ sym (at_even S x q.1)))
+    (λ q. (let e = q.0 in at_odd (put S w ys) x q.1 ∙ passed (2 * half x + 1) w (S.second (half x)) (λ s. d (omega (arith, s, e))) ∙ sym (at_odd S x q.1)))
+    (even_or_odd x)
+  where
+    passed : (i w : ℕ) (xs : List ℕ) → i ≢ w → cond (i == w) ys xs ≡ xs
+    passed i w xs e = grind (arith, nat_tests, e)
+
+-- ---- crossings of lists are nodes
+pub crossing_ok : (p : Parameters) (group k : ℕ) (a b c d : List ℕ) → length a ≡ length c → length b ≡ length d → length a ≤ 8 → length b ≤ 8 → All IsNode (crossing_cable p group k a b c d)
+crossing_ok p group k a b c d la lb few_a few_b =
+    let names : ℕ → List ℕ = λ l. cond (l == 1) a (cond (l == 2) b (cond (l == 3) c (cond (l == 4) d []))) in
+    let S : Strands = record { first = names; second = names; boxed = λ l. false; box = projector_of p } in
+    let standing : Standing = record { seen = []; index = k; group = group; loop_group = 0 } in
+    let long : (l : ℕ) → length (names l) ≤ 8 =
+    λ l.
+    elim (l == 1) as (λ t. length (cond t a (cond (l == 2) b (cond (l == 3) c (cond (l == 4) d [])))) ≤ 8) [
+      | true ↦ few_a
+      | false ↦ elim (l == 2) as (λ t. length (cond t b (cond (l == 3) c (cond (l == 4) d []))) ≤ 8) [
+        | true ↦ few_b
+        | false ↦ elim (l == 3) as (λ t. length (cond t c (cond (l == 4) d [])) ≤ 8) [
+          | true ↦ omega (arith, la, few_a)
+          | false ↦ elim (l == 4) as (λ t. length (cond t d []) ≤ 8) [ true ↦ omega (arith, lb, few_b) | false ↦ omega arith ]
+        ]
+      ]
+    ] in
+    let one = All-weaker (IsGood p.modulus) IsNode (λ node g. g.is_node) (cable_nodes p S standing (X (1 ∷ 2 ∷ 3 ∷ 4 ∷ []) ∷ []))
+    (cable_good p S (λ l. refl) long (projector_boxes p) (X (1 ∷ 2 ∷ 3 ∷ 4 ∷ []) ∷ []) standing ((la, lb), tt)) in
+    All-first IsNode (crossing_cable p group k a b c d) [] one
+
+-- ---- nodes of items, one behind the other
+stubs_put : (p : Parameters) (S : Strands) (w : ℕ) (ys : List ℕ) (g i a b c d : ℕ) → a ≢ w → b ≢ w → c ≢ w → d ≢ w → stub_crossing p (put S w ys) g i (a ∷ b ∷ c ∷ d ∷ []) ≡ stub_crossing p S g i (a ∷ b ∷ c ∷ d ∷ [])
+stubs_put p S w ys g i a b c d da db dc dd =
+    ap₂ (λ x y. crossing_cable p g i x y (at_stub (put S w ys) c) (at_stub (put S w ys) d)) (put_other S w a ys da) (put_other S w b ys db)
+    ∙ ap₂ (λ x y. crossing_cable p g i (at_stub S a) (at_stub S b) x y) (put_other S w c ys dc) (put_other S w d ys dd)
+
+loop_put : (S : Strands) (w : ℕ) (ys : List ℕ) (lg : ℕ) (xs : List ℕ) → loop_nodes (put S w ys) lg xs ≡ loop_nodes S lg xs
+loop_put S w ys lg [] = refl
+loop_put S w ys lg (x ∷ []) = refl
+loop_put S w ys lg (x ∷ y ∷ xs) = refl
+
+-- THE STUB DOES NOT STAND THERE
+pub kept_put : (p : Parameters) (S : Strands) (w : ℕ) (ys : List ℕ) (n g i lg : ℕ) (D : List Item) → AllByRecursion HasItsSlots D → times_in (crossing_labels D) w ≡ 0 → ((l : ℕ) → is_member ◌==◌ (loop_labels D) l ≡ true → 2 * l ≢ w) →
+    stub_nodes p (put S w ys) [] n g i lg D ≡ stub_nodes p S [] n g i lg D
+kept_put p S w ys n g i lg [] sizes none away = refl
+kept_put p S w ys n g i lg (item.Loop l ∷ rest) sizes none away =
+    ap₂ (λ xs ns. xs ++ ns)
+    (loop_put S w ys lg (cond (2 * l == w) ys (S.first l)) ∙ ap (loop_nodes S lg) (passed (2 * l) (S.first l) (away l (here l (is_member ◌==◌ (loop_labels rest) l)))))
+    (kept_put p S w ys n g (i + 1) (lg + 1) rest sizes.1 none (λ k m. away k (later (k == l) (is_member ◌==◌ (loop_labels rest) k) m)))
+  where
+    passed : (i : ℕ) (xs : List ℕ) → i ≢ w → cond (i == w) ys xs ≡ xs
+    passed i xs e = grind (arith, nat_tests, e)
+
+    here : (l : ℕ) (t : Bool) → ((l == l) || t) ≡ true
+    here l t = grind (arith, nat_tests)
+
+    later : (s t : Bool) → t ≡ true → (s || t) ≡ true
+    later s t e = grind (arith, e)
+kept_put p S w ys n g i lg (item.X (a ∷ b ∷ c ∷ d ∷ []) ∷ rest) sizes none away =
+    let k = times_in-append (a ∷ b ∷ c ∷ d ∷ []) (crossing_labels rest) w in
+    let four = four_times w a b c d in
+    ap₂ (λ xs ns. xs ++ ns)
+    (stubs_put p S w ys g i a b c d (apart a (omega (arith, k, four, none))) (apart b (omega (arith, k, four, none))) (apart c (omega (arith, k, four, none))) (apart d (omega (arith, k, four, none))))
+    (kept_put p S w ys (n + 1) (g + 1) (i + 1) lg rest sizes.1 (omega (arith, k, none)) away)
+  where
+    apart : (a : ℕ) → at w a ≡ 0 → a ≢ w
+    apart a h e = grind (arith, nat_tests, h, e)
+kept_put p S w ys n g i lg (item.X [] ∷ rest) sizes none away = absurd (omega (arith, sizes.0))
+kept_put p S w ys n g i lg (item.X (a ∷ []) ∷ rest) sizes none away = absurd (omega (arith, sizes.0))
+kept_put p S w ys n g i lg (item.X (a ∷ b ∷ []) ∷ rest) sizes none away = absurd (omega (arith, sizes.0))
+kept_put p S w ys n g i lg (item.X (a ∷ b ∷ c ∷ []) ∷ rest) sizes none away = absurd (omega (arith, sizes.0))
+kept_put p S w ys n g i lg (item.X (a ∷ b ∷ c ∷ d ∷ e ∷ slots) ∷ rest) sizes none away = absurd (omega (arith, sizes.0))
+
+-- TWO LISTS OF ITEMS, AND WHERE THE SECOND ONE BEGINS
+pub parted : (p : Parameters) (pre : List Item) (n g i lg : ℕ) → (n' : ℕ) × (g' : ℕ) × (i' : ℕ) × (lg' : ℕ) × ((S : Strands) (rest : List Item) →
+    stub_nodes p S [] n g i lg (pre ++ rest) ≡ stub_nodes p S [] n g i lg pre ++ stub_nodes p S [] n' g' i' lg' rest)
+parted p [] n g i lg = (n, g, i, lg, λ S rest. refl)
+parted p (item.X slots ∷ pre) n g i lg =
+    let r = parted p pre (n + 1) (g + 1) (i + 1) lg in (
+      r.0,
+      r.1,
+      r.2,
+      r.3,
+      λ S rest. ap (λ ns. stub_crossing p S g i slots ++ ns) (r.4 S rest) ∙ sym (append_assoc (stub_crossing p S g i slots) (stub_nodes p S [] (n + 1) (g + 1) (i + 1) lg pre) (stub_nodes p S [] r.0 r.1 r.2 r.3 rest)),
+    )
+parted p (item.Loop l ∷ pre) n g i lg =
+    let r = parted p pre n g (i + 1) (lg + 1) in (
+      r.0,
+      r.1,
+      r.2,
+      r.3,
+      λ S rest. ap (λ ns. loop_nodes S lg (S.first l) ++ ns) (r.4 S rest) ∙ sym (append_assoc (loop_nodes S lg (S.first l)) (stub_nodes p S [] n g (i + 1) (lg + 1) pre) (stub_nodes p S [] r.0 r.1 r.2 r.3 rest)),
+    )
