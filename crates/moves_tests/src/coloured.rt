@@ -25,24 +25,27 @@ pub(crate) struct Kept {
 }
 
 /// The planar diagram of a text, or the closure of the braid of one.
-fn planar(alloc: Global, text: &[u8]) -> Option<Planar> {
+pub(crate) fn planar(alloc: Global, text: &[u8]) -> Option<Planar> {
     if let Ok(braid) = read_braid(alloc, text) {
         return check(alloc, closure(alloc, &braid).ok()?).ok();
     }
     check(alloc, read_pd(alloc, text).ok()?).ok()
 }
 
-/// The coloured values before and after a step.
-fn around<R: Threads + Sync>(
+/// The coloured values of the diagrams of a script of at most two steps.
+pub(crate) fn lines<R: Threads + Sync>(
     rt: &R,
     alloc: Global,
     params: &Params,
     planar: Planar,
     colours: &[u32],
-    step: Step,
+    steps: &[Step],
 ) -> Option<Vec<u64>> {
     let greatest = greatest_label(alloc, planar.diagram().items()).ok()?;
-    if greatest > GREATEST_LABEL - NEW_LABELS || colours.len() != planar.components() as usize {
+    if greatest > GREATEST_LABEL - 2 * NEW_LABELS || steps.len() > 2 {
+        return None;
+    }
+    if colours.len() != planar.components() as usize {
         return None;
     }
     match check_colours(colours, planar.components(), params.top_colour()) {
@@ -50,13 +53,12 @@ fn around<R: Threads + Sync>(
         Err(_) => return None,
     }
     let coloured = Coloured::new(planar, Vec::from_slice(alloc, colours).ok()?);
-    let steps = [step];
     script_values(
         rt,
         alloc,
         params,
         Drawing::Coloured(coloured),
-        &steps,
+        steps,
         &NoGate,
     )
     .ok()
@@ -95,7 +97,7 @@ pub(crate) fn try_coloured<R: Threads + Sync>(
             _ => false,
         };
         if is_move {
-            if let Some(values) = around(rt, alloc, params, planar(alloc, text)?, colours, *step) {
+            if let Some(values) = lines(rt, alloc, params, planar(alloc, text)?, colours, &[*step]) {
                 seen.accepted = seen.accepted.saturating_add(1);
                 seen.kept = seen
                     .kept

@@ -5,6 +5,8 @@
 #[cfg(test)]
 mod coloured;
 #[cfg(test)]
+mod curls;
+#[cfg(test)]
 mod slides;
 #[cfg(test)]
 mod steps;

@@ -2,6 +2,7 @@
 //! program; all of these but the two blow-ups are taken back.
 
 use crate::coloured::try_coloured;
+use crate::curls::{Curls, try_curls};
 use crate::slides::{Slides, try_slides};
 use crate::trials::{LEVEL, MODULUS, ROOT, Seen, try_all};
 use braid_closures::closure;
@@ -185,6 +186,35 @@ fn coloured_moves(rt: HostRuntime) -> Result<(), Fail> {
         let seen = try_coloured(&rt, rt.alloc(), &params, text, colours).ok_or("a diagram")?;
         assert_eq!(rt; seen.kept, seen.accepted);
         assert!(rt; seen.accepted > 0);
+    }
+    Ok(())
+}
+
+/// A loop, a loop with a curl, the Hopf link, the trefoil and the Whitehead link with colours up to 5, and how many curls are tried: two an edge.
+const CURLED: [(&[u8], &[u32], u32); 6] = [
+    (b"PD[Loop[1]]", &[5], 2),
+    (b"PD[X[1,1,2,2]]", &[4], 4),
+    (b"PD[X[1,1,2,2]]", &[5], 4),
+    (b"PD[X[2,4,3,1],X[4,2,1,3]]", &[2, 3], 8),
+    (b"PD[X[1,4,2,5],X[3,6,4,1],X[5,2,6,3]]", &[2], 12),
+    (
+        b"PD[X[6,1,7,2],X[10,7,5,8],X[4,5,1,6],X[2,10,3,9],X[8,4,9,3]]",
+        &[2, 0],
+        20,
+    ),
+];
+
+/// A curl on any edge, boxed or not, multiplies the coloured value by the twist of its colour, and the value comes back where it is undone.
+#[test]
+fn coloured_curls(rt: HostRuntime) -> Result<(), Fail> {
+    let params = Params::new(29, 2, 7).ok().ok_or("parameters")?;
+    for (text, colours, accepted) in CURLED {
+        let seen = try_curls(&rt, rt.alloc(), &params, text, colours);
+        let wanted = Curls {
+            accepted,
+            multiplied: accepted,
+        };
+        assert_eq!(rt; seen, Some(wanted));
     }
     Ok(())
 }
