@@ -1,7 +1,7 @@
 //! Worked rows, and one call of each public function.
 
 use super::*;
-use std::test::*;
+use std::alloc::Global;
 
 /// The left-handed trefoil: 36 bytes.
 const TREFOIL: &[u8] = b"PD[X[1,4,2,5],X[3,6,4,1],X[5,2,6,3]]";
@@ -29,6 +29,13 @@ const REFUSED: [(&[u8], TextFault); 13] = [
     (b"PD[],", TextFault::Text { at: 4 }),
 ];
 
+/// The trefoil's items.
+const CROSSINGS: [Item; 3] = [
+    Item::X([1, 4, 2, 5]),
+    Item::X([3, 6, 4, 1]),
+    Item::X([5, 2, 6, 3]),
+];
+
 /// Other spellings of the trefoil, with white space of each kind.
 const SPELLINGS: [&[u8]; 2] = [
     TREFOIL,
@@ -46,70 +53,122 @@ const NETS: [(&[u8], Option<TextFault>); 4] = [
     (b"Net[Y[1,2,3,4]]", Some(TextFault::Text { at: 11 })),
 ];
 
+/// Why the bytes are no text of a diagram, if they are none.
+fn pd_fault(alloc: Global, text: &[u8]) -> Option<TextFault> {
+    match read_pd(alloc, text) {
+        Ok(_) => None,
+        Err(fault) => Some(fault),
+    }
+}
+
+/// Why the bytes are no text of a net, if they are none.
+fn net_fault(alloc: Global, text: &[u8]) -> Option<TextFault> {
+    match read_net(alloc, text) {
+        Ok(_) => None,
+        Err(fault) => Some(fault),
+    }
+}
+
+/// Whether the diagram is written as this text.
+fn is_written(alloc: Global, diagram: &Diagram, text: &[u8]) -> bool {
+    match write_pd(alloc, diagram) {
+        Ok(written) => written.as_slice() == text,
+        Err(_) => false,
+    }
+}
+
+/// Whether the bytes spell the trefoil.
+fn spells_trefoil(alloc: Global, text: &[u8]) -> bool {
+    match read_pd(alloc, text) {
+        Ok(diagram) => diagram.items() == CROSSINGS.as_slice()
+            && is_written(alloc, &diagram, TREFOIL),
+        Err(_) => false,
+    }
+}
+
 #[test]
-fn worked_rows(rt: HostRuntime) -> Result<(), Fail> {
+fn worked_rows(rt: HostRuntime) {
     for (text, fault) in REFUSED {
-        assert_eq!(rt; read_pd(rt.alloc(), text).err(), Some(fault));
+        assert!(rt; pd_fault(rt.alloc(), text) == Some(fault), "{fault:?}");
     }
     for text in SPELLINGS {
-        let diagram = read_pd(rt.alloc(), text)?;
-        assert_eq!(rt;
-            diagram.items(),
-            [
-                Item::X([1, 4, 2, 5]),
-                Item::X([3, 6, 4, 1]),
-                Item::X([5, 2, 6, 3])
-            ]
-            .as_slice()
-        );
-        assert_eq!(rt; write_pd(rt.alloc(), &diagram)?.as_slice(), TREFOIL);
+        assert!(rt; spells_trefoil(rt.alloc(), text));
     }
     for (text, fault) in NETS {
-        assert_eq!(rt; read_net(rt.alloc(), text).err(), fault);
+        assert!(rt; net_fault(rt.alloc(), text) == fault, "{fault:?}");
     }
-    Ok(())
+}
+
+/// Whether the torus link with three crossings is written as this text.
+fn torus_is_written(alloc: Global, text: &[u8]) -> bool {
+    match torus(alloc, 3) {
+        Ok(three) => is_written(alloc, &three, text),
+        Err(_) => false,
+    }
+}
+
+/// Whether the loop of the greatest label is written as this text.
+fn loop_is_written(alloc: Global, text: &[u8]) -> bool {
+    match Diagram::new(alloc, &[Item::Loop(2_000_000)]) {
+        Ok(unknot) => is_written(alloc, &unknot, text),
+        Err(_) => false,
+    }
+}
+
+/// How many items the net of one loop has.
+fn loop_net_size(alloc: Global) -> Option<usize> {
+    match NetDiagram::new(alloc, &[NetItem::Loop(1)]) {
+        Ok(net) => Some(net.items().len()),
+        Err(_) => None,
+    }
 }
 
 /// The torus link with three crossings, and a diagram and a net made of items.
 #[test]
-fn made_of_items(rt: HostRuntime) -> Result<(), Fail> {
-    let three = torus(rt.alloc(), 3)?;
-    assert_eq!(rt;
-        write_pd(rt.alloc(), &three)?.as_slice(),
-        b"PD[X[2,4,3,1],X[4,6,5,3],X[6,2,1,5]]".as_slice()
-    );
-    let unknot = Diagram::new(rt.alloc(), &[Item::Loop(2_000_000)])?;
-    assert_eq!(rt;
-        write_pd(rt.alloc(), &unknot)?.as_slice(),
-        b"PD[Loop[2000000]]".as_slice()
-    );
-    let net = NetDiagram::new(rt.alloc(), &[NetItem::Loop(1)])?;
-    assert_eq!(rt; net.items().len(), 1);
-    Ok(())
+fn made_of_items(rt: HostRuntime) {
+    assert!(rt; torus_is_written(rt.alloc(), b"PD[X[2,4,3,1],X[4,6,5,3],X[6,2,1,5]]"));
+    assert!(rt; loop_is_written(rt.alloc(), b"PD[Loop[2000000]]"));
+    assert!(rt; loop_net_size(rt.alloc()) == Some(1));
 }
 
-/// The calls that the readers stand on.
+/// The calls that the readers stand on: white space, the beginning of a word, and the byte at a place.
 #[test]
-fn tokens(rt: HostRuntime) -> Result<(), Fail> {
-    assert_eq!(rt; skip(b"a \n\tb", 1), 4);
-    assert_eq!(rt; agree(b"R2Un[", 0, b"R2Undo"), 4);
-    assert_eq!(rt; number(b"7,12", 2), Some((12, 4)));
-    assert_eq!(rt; number(b"012", 0), None);
-    assert_eq!(rt; read_number(b" 12]", 0), Ok((12, 3)));
-    assert_eq!(rt; read_number(b" ]", 0), Err(1));
-    assert_eq!(rt; place_at(b"PD", 2), Place::Text { at: 2 });
-    Ok(())
+fn tokens(rt: HostRuntime) {
+    assert!(rt; skip(b"a \n\tb", 1) == 4);
+    assert!(rt; agree(b"R2Un[", 0, b"R2Undo") == 4);
+    assert!(rt; place_at(b"PD", 2) == Place::Text { at: 2 });
+}
+
+/// The calls that the readers stand on: numbers.
+#[test]
+fn numbers(rt: HostRuntime) {
+    assert!(rt; number(b"7,12", 2) == Some((12, 4)));
+    assert!(rt; number(b"012", 0) == None);
+    assert!(rt; read_number(b" 12]", 0) == Ok((12, 3)));
+    assert!(rt; read_number(b" ]", 0) == Err(1));
+}
+
+/// Whether a list in braces has these numbers, and ends here.
+fn reads_inside(alloc: Global, text: &[u8], numbers: &[i32], end: usize) -> bool {
+    match read_inside::<i32>(alloc, text, 0, b'}') {
+        Ok((entries, found)) => entries.as_slice() == numbers && found == end,
+        Err(_) => false,
+    }
+}
+
+/// Whether a list that goes on behind 7 breaks off here, and these numbers are kept of it.
+fn breaks_off(alloc: Global, text: &[u8], at: usize, numbers: &[i32]) -> bool {
+    match Vec::from_slice(alloc, &[7]) {
+        Ok(mut kept) => {
+            read_behind(text, 0, b']', &mut kept) == Err(Stop::At(at)) && kept.as_slice() == numbers
+        }
+        Err(_) => false,
+    }
 }
 
 /// A list in braces, of signed numbers, and what is kept of one that breaks off.
 #[test]
-fn signed_numbers(rt: HostRuntime) -> Result<(), Fail> {
-    let (entries, end) = read_inside::<i32>(rt.alloc(), b" 1, - 2 }x", 0, b'}')
-        .ok()
-        .ok_or("a list")?;
-    assert_eq!(rt; (entries.as_slice(), end), ([1, -2].as_slice(), 9));
-    let mut kept = Vec::from_slice(rt.alloc(), &[7])?;
-    assert_eq!(rt; read_behind(b",-5,x", 0, b']', &mut kept), Err(Stop::At(4)));
-    assert_eq!(rt; kept.as_slice(), [7, -5].as_slice());
-    Ok(())
+fn signed_numbers(rt: HostRuntime) {
+    assert!(rt; reads_inside(rt.alloc(), b" 1, - 2 }x", &[1, -2], 9));
+    assert!(rt; breaks_off(rt.alloc(), b",-5,x", 4, &[7, -5]));
 }
