@@ -14,6 +14,7 @@ pub mod BoxedLoops
 pub mod LetterRuns
 pub mod StubLetters
 pub mod StubSlides
+pub mod LetterSteps
 pub mod SlidLetters
 pub mod CurledBoxes
 mod Examples
