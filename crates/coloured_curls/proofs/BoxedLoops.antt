@@ -70,7 +70,7 @@ abbrev U : List Node → List Node
 U = map without_group
 
 -- ---- a projector's box does not tell its sides, whatever stands in front
-half_turned : (m delta free n : ℕ) (f : List Term) (xs ys : List ℕ) (front back : List Node) → 0 < m → n ≤ 8 → IsProjector m delta n f → length xs ≡ n → length ys ≡ n →
+pub half_turned : (m delta free n : ℕ) (f : List Term) (xs ys : List ℕ) (front back : List Node) → 0 < m → n ≤ 8 → IsProjector m delta n f → length xs ≡ n → length ys ≡ n →
     All IsNode front → All IsNode back → IsNode (box_node 0 f xs ys) → IsNode (box_node 0 f ys xs) →
     value m delta record { nodes = front ++ (box_node 0 f xs ys ∷ back); free_loops = free } ≡ value m delta record { nodes = front ++ (box_node 0 f ys xs ∷ back); free_loops = free }
 half_turned m delta free n f xs ys front back some few is lx ly okf okb ok_xy ok_yx =

@@ -31,7 +31,7 @@ use Rattle.diagram_moves.proofs.Pushing.{crossing_labels-append}
 use Rattle.move_results.proofs.PairedAgain.{loop_labels-append}
 use Rattle.cable_crossings.proofs.StepPieces.{All-first, All-second}
 use Rattle.cable_crossings.proofs.ToldCrossings.{told, told_from}
-use Rattle.coloured_moves.proofs.StubItems.{at_stub, stub_crossing, stub_nodes, moved_out}
+use Rattle.coloured_moves.proofs.StubItems.{half, at_stub, stub_crossing, stub_nodes, moved_out}
 use Rattle.coloured_moves.proofs.StubNames.{Straight}
 use Rattle.coloured_moves.proofs.TurnedBoxes.{names_permuted}
 use Rattle.coloured_curls.proofs.StubLetters.{changed, changed_length, changed_times, put, put_here, put_other, crossing_ok, kept_put, parted, four_times}
@@ -91,7 +91,7 @@ pub record AreStubs (p : Parameters) (S : Strands) (K : List Node) (n g i lg : �
   pub straight : AllByRecursion (Straight S) D
   pub few : (w : ℕ) → length (at_stub S w) ≤ 8
   pub once : (w : ℕ) → times_in (crossing_labels D) w ≤ 1
-  pub loops : (l : ℕ) → is_member ◌==◌ (loop_labels D) l ≡ true → times_in (crossing_labels D) (2 * l) ≡ 0
+  pub loops : (l w : ℕ) → is_member ◌==◌ (loop_labels D) l ≡ true → half w ≡ l → times_in (crossing_labels D) w ≡ 0
   pub twice : (z : ℕ) → 1 ≤ times_in (names_of (K ++ stub_nodes p S [] n g i lg D)) z → times_in (names_of (K ++ stub_nodes p S [] n g i lg D)) z ≡ 2
 
 -- the weights of a crossing of strands
@@ -172,7 +172,7 @@ module _ (p : Parameters) (free : ℕ) (t : Bool) (S : Strands) (K : List Node) 
   one_at w = grind (arith, nat_tests)
 
   no_loop : (w : ℕ) → 1 ≤ times_in (crossing_labels D) w → (l : ℕ) → is_member ◌==◌ (loop_labels D) l ≡ true → 2 * l ≢ w
-  no_loop w h l m e = let none = are.loops l m in let s = ap (times_in (crossing_labels D)) e in omega (arith, none, s, h)
+  no_loop w h l m e = let none = are.loops l (2 * l) m (let q : half (2 * l) ≡ l = omega arith in q) in let s = ap (times_in (crossing_labels D)) e in omega (arith, none, s, h)
 
   others_kept : (w : ℕ) (ys : List ℕ) → 1 ≤ times_in ws w → (P (put S w ys) ≡ P S) × (Q (put S w ys) ≡ Q S)
   others_kept w ys h =

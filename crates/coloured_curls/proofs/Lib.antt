@@ -15,6 +15,9 @@ pub mod LetterRuns
 pub mod StubLetters
 pub mod StubSlides
 pub mod LetterSteps
+pub mod SwappedNames
+pub mod EdgeLetters
+pub mod EdgeSteps
 pub mod SlidLetters
 pub mod CurledBoxes
 mod Examples

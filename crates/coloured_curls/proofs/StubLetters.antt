@@ -3,12 +3,12 @@
 --     changed xs k left right        the list with other names at the places k and k+1
 --     put S w ys                     the strands with the names ys at the stub w
 --     parted                         the nodes of two lists of items, one behind the other
-use Rattle.std.proofs.Common.{◌≡◌, ◌≢◌, ℕ, zero, suc, ◌+◌, ◌-◌, ◌*◌, ◌/◌, ◌%◌, ◌<◌, ◌≤◌, ◌==◌, ◌⊎◌, inl, inr, ◌||◌, Bool, true, false, cond, List, [], ◌∷◌, ◌++◌, length, slice_index, refl, sym, ap, ap₂, ◌∙◌, arith, ⊎_elim, All, append_assoc}
+use Rattle.std.proofs.Common.{◌≡◌, ◌≢◌, ℕ, zero, suc, ◌+◌, ◌-◌, ◌*◌, ◌/◌, ◌%◌, ◌<◌, ◌≤◌, ◌==◌, ◌⊎◌, inl, inr, ◌||◌, Bool, true, false, cond, List, [], ◌∷◌, ◌++◌, length, slice_index, refl, sym, ap, ap₂, ◌∙◌, arith, ⊎_elim, All, append_assoc, subst}
 use Rattle.std.specs.List.{AllByRecursion}
 use Rattle.std.specs.Set.{is_member}
 use Rattle.std.proofs.lemmas.Bool.{cases_eq}
 use Rattle.std.proofs.lemmas.Bool.Decides.{nat_tests}
-use Rattle.std.proofs.lemmas.List.Elements.{All-weaker}
+use Rattle.std.proofs.lemmas.List.Elements.{All-append, All-weaker}
 use Rattle.list_lemmas.specs.Times.{times_in}
 use Rattle.list_lemmas.proofs.Times.{times_in-append, times_in-cons}
 use Rattle.state_sums.specs.Networks.{Node, IsNode}
@@ -26,7 +26,8 @@ use Rattle.cables.proofs.NameCounts.{at}
 use Rattle.cables.proofs.ProjectorBoxes.{projector_boxes}
 use Rattle.diagram_moves.specs.Rewriting.{crossing_labels}
 use Rattle.diagram_moves.proofs.Paired.{loop_labels}
-use Rattle.cable_crossings.proofs.StepPieces.{All-first}
+use Rattle.cable_crossings.proofs.StepPieces.{All-first, All-second}
+use Rattle.coloured_moves.proofs.StubNames.{Straight}
 use Rattle.coloured_moves.proofs.StubItems.{half, at_stub, stub_crossing, stub_nodes}
 
 -- ---- a list with two other names
@@ -150,7 +151,7 @@ stubs_put p S w ys g i a b c d da db dc dd =
     ap₂ (λ x y. crossing_cable p g i x y (at_stub (put S w ys) c) (at_stub (put S w ys) d)) (put_other S w a ys da) (put_other S w b ys db)
     ∙ ap₂ (λ x y. crossing_cable p g i (at_stub S a) (at_stub S b) x y) (put_other S w c ys dc) (put_other S w d ys dd)
 
-loop_put : (S : Strands) (w : ℕ) (ys : List ℕ) (lg : ℕ) (xs : List ℕ) → loop_nodes (put S w ys) lg xs ≡ loop_nodes S lg xs
+pub loop_put : (S : Strands) (w : ℕ) (ys : List ℕ) (lg : ℕ) (xs : List ℕ) → loop_nodes (put S w ys) lg xs ≡ loop_nodes S lg xs
 loop_put S w ys lg [] = refl
 loop_put S w ys lg (x ∷ []) = refl
 loop_put S w ys lg (x ∷ y ∷ xs) = refl
@@ -207,3 +208,43 @@ parted p (item.Loop l ∷ pre) n g i lg =
       r.3,
       λ S rest. ap (λ ns. loop_nodes S lg (S.first l) ++ ns) (r.4 S rest) ∙ sym (append_assoc (loop_nodes S lg (S.first l)) (stub_nodes p S [] n g (i + 1) (lg + 1) pre) (stub_nodes p S [] r.0 r.1 r.2 r.3 rest)),
     )
+
+-- the strands at a stub that is changed are as many
+put_length : (S : Strands) (w x : ℕ) (ys : List ℕ) → length ys ≡ length (at_stub S w) → length (at_stub (put S w ys) x) ≡ length (at_stub S x)
+put_length S w x ys e =
+    ⊎_elim (λ (q : x ≡ w). ap (λ i. length (at_stub (put S w ys) i)) q ∙ ap length (put_here S w ys) ∙ e ∙ sym (ap (λ i. length (at_stub S i)) q)) (λ d. ap length (put_other S w x ys d)) (cases_eq x w)
+
+-- THE NODES WITH OTHER NAMES ARE NODES
+pub put_ok : (p : Parameters) (S : Strands) (w : ℕ) (ys : List ℕ) → length ys ≡ length (at_stub S w) → ((x : ℕ) → length (at_stub S x) ≤ 8) → (n g i lg : ℕ) (D : List Item) → AllByRecursion (Straight S) D →
+    ((l : ℕ) → is_member ◌==◌ (loop_labels D) l ≡ true → 2 * l ≢ w) → All IsNode (stub_nodes p S [] n g i lg D) → All IsNode (stub_nodes p (put S w ys) [] n g i lg D)
+put_ok p S w ys e few n g i lg [] straight away ok = ok
+put_ok p S w ys e few n g i lg (item.Loop l ∷ rest) straight away ok =
+    let L = loop_nodes S lg (S.first l) in
+    let same : loop_nodes (put S w ys) lg (cond (2 * l == w) ys (S.first l)) ≡ L =
+    loop_put S w ys lg (cond (2 * l == w) ys (S.first l)) ∙ ap (loop_nodes S lg) (passed (2 * l) (S.first l) (away l (here l (is_member ◌==◌ (loop_labels rest) l)))) in
+    let later = stub_nodes p S [] n g (i + 1) (lg + 1) rest in
+    All-append IsNode (loop_nodes (put S w ys) lg (cond (2 * l == w) ys (S.first l))) (stub_nodes p (put S w ys) [] n g (i + 1) (lg + 1) rest)
+    (subst (All IsNode) (sym same) (All-first IsNode L later ok))
+    (put_ok p S w ys e few n g (i + 1) (lg + 1) rest straight.1 (λ k m. away k (behind (k == l) (is_member ◌==◌ (loop_labels rest) k) m)) (All-second IsNode L later ok))
+  where
+    passed : (i : ℕ) (xs : List ℕ) → i ≢ w → cond (i == w) ys xs ≡ xs
+    passed i xs e = grind (arith, nat_tests, e)
+
+    here : (l : ℕ) (t : Bool) → ((l == l) || t) ≡ true
+    here l t = grind (arith, nat_tests)
+
+    behind : (s t : Bool) → t ≡ true → (s || t) ≡ true
+    behind s t e = grind (arith, e)
+put_ok p S w ys e few n g i lg (item.X (a ∷ b ∷ c ∷ d ∷ []) ∷ rest) straight away ok =
+    let T = put S w ys in
+    let C = stub_crossing p T g i (a ∷ b ∷ c ∷ d ∷ []) in
+    let la = put_length S w a ys e in let lb = put_length S w b ys e in let lc = put_length S w c ys e in let ld = put_length S w d ys e in
+    let fa = few a in let fb = few b in
+    All-append IsNode C (stub_nodes p T [] (n + 1) (g + 1) (i + 1) lg rest)
+    (crossing_ok p g i (at_stub T a) (at_stub T b) (at_stub T c) (at_stub T d) (la ∙ straight.0.0 ∙ sym lc) (lb ∙ straight.0.1 ∙ sym ld) (omega (arith, la, fa)) (omega (arith, lb, fb)))
+    (put_ok p S w ys e few (n + 1) (g + 1) (i + 1) lg rest straight.1 away (All-second IsNode (stub_crossing p S g i (a ∷ b ∷ c ∷ d ∷ [])) (stub_nodes p S [] (n + 1) (g + 1) (i + 1) lg rest) ok))
+put_ok p S w ys e few n g i lg (item.X [] ∷ rest) straight away ok = absurd straight.0
+put_ok p S w ys e few n g i lg (item.X (a ∷ []) ∷ rest) straight away ok = absurd straight.0
+put_ok p S w ys e few n g i lg (item.X (a ∷ b ∷ []) ∷ rest) straight away ok = absurd straight.0
+put_ok p S w ys e few n g i lg (item.X (a ∷ b ∷ c ∷ []) ∷ rest) straight away ok = absurd straight.0
+put_ok p S w ys e few n g i lg (item.X (a ∷ b ∷ c ∷ d ∷ f ∷ slots) ∷ rest) straight away ok = absurd straight.0
