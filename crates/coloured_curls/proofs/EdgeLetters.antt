@@ -171,7 +171,7 @@ module _ (p : Parameters) (free : ℕ) (t : Bool) (S : Strands) (K : List Node) 
         let a = first_label in let b = second_label in let x = high_u.0 in let y = high_v.0 in
         swap_other first_name second_name u v are_four z (λ q. d (omega (arith, q, e, a))) (λ q. d (omega (arith, q, e, b))) (λ q. omega (arith, q, e, s, x)) (λ q. omega (arith, q, e, s, y))
 
-    all_fixed : (xs : List ℕ) → ((z : ℕ) → 1 ≤ times_in xs z → f z ≡ z) → map f xs ≡ xs
+    pub all_fixed : (xs : List ℕ) → ((z : ℕ) → 1 ≤ times_in xs z → f z ≡ z) → map f xs ≡ xs
     all_fixed [] h = refl
     all_fixed (x ∷ xs) h =
         ap₂ (λ y ys. y ∷ ys) (h x (let c = times_in-cons x xs x in let a : at x x ≡ 1 = grind (arith, nat_tests) in omega (arith, c, a))) (all_fixed xs (λ z l. h z (let c = times_in-cons x xs z in omega (arith, c, l))))

@@ -37,7 +37,7 @@ use Rattle.coloured_curls.proofs.StubLetters.{changed, changed_length, changed_f
 use Rattle.coloured_curls.proofs.StubSlides.{half_turn, letter_at, letter_times}
 use Rattle.coloured_curls.proofs.SwappedNames.{AreFour, swap, swap_p, swap_q, swapped_value, map_changed, stubs_renamed}
 
-put_first : (S : Strands) (w l : ℕ) (ys : List ℕ) → 2 * l ≢ w → (put S w ys).first l ≡ S.first l
+pub put_first : (S : Strands) (w l : ℕ) (ys : List ℕ) → 2 * l ≢ w → (put S w ys).first l ≡ S.first l
 put_first S w l ys d = plain (2 * l) (S.first l) d
   where
     plain : (i : ℕ) (xs : List ℕ) → i ≢ w → cond (i == w) ys xs ≡ xs
@@ -60,7 +60,7 @@ module _ (p : Parameters) (free : ℕ) (t : Bool) (S : Strands) (K : List Node) 
   base_count : (z : ℕ) → times_in base z ≡ times_in (names_of K) z + times_in (names_of (N S)) z
   base_count z = times_of-append z K (N S)
 
-  changed_ok : (w k u v : ℕ) → 1 ≤ times_in (crossing_labels D) w → All IsNode (letter_at (weight p t) (other_weight p t) (at_stub S w) k u v ∷ (K ++ N (put S w (changed (at_stub S w) k u v))))
+  pub changed_ok : (w k u v : ℕ) → 1 ≤ times_in (crossing_labels D) w → All IsNode (letter_at (weight p t) (other_weight p t) (at_stub S w) k u v ∷ (K ++ N (put S w (changed (at_stub S w) k u v))))
   changed_ok w k u v h =
       let A = at_stub S w in
       All-cons IsNode (letter_at (weight p t) (other_weight p t) A k u v) (K ++ N (put S w (changed A k u v))) (IsNode-crossing (weight p t) (other_weight p t) (slice_index A (suc k)) v u (slice_index A k))

@@ -18,6 +18,7 @@ pub mod LetterSteps
 pub mod SwappedNames
 pub mod EdgeLetters
 pub mod EdgeSteps
+pub mod BoxSteps
 pub mod SlidLetters
 pub mod CurledBoxes
 mod Examples

@@ -11,7 +11,7 @@ use Rattle.std.proofs.lemmas.Bool.Decides.{nat_tests}
 use Rattle.std.proofs.lemmas.List.Elements.{All-append, All-weaker}
 use Rattle.list_lemmas.specs.Times.{times_in}
 use Rattle.list_lemmas.proofs.Times.{times_in-append, times_in-cons}
-use Rattle.state_sums.specs.Networks.{Node, IsNode}
+use Rattle.state_sums.specs.Networks.{Node, IsNode, names_of}
 use Rattle.root_quantum.specs.Parameters.{Parameters}
 use Rattle.pd_reader.specs.declared.item.Item.{Item}
 use Rattle.pd_reader.specs.declared.item.Item.TheVariants as item
@@ -22,7 +22,8 @@ use Rattle.cables.specs.Cables.{Standing, loop_nodes, cable_nodes}
 use Rattle.cables.specs.Nets.{projector_of}
 use Rattle.cables.specs.Strands.{Strands}
 use Rattle.cables.proofs.CableIsNodes.{IsGood, cable_good}
-use Rattle.cables.proofs.NameCounts.{at}
+use Rattle.cables.proofs.GridNames.{crossing-times, crossing_inner}
+use Rattle.cables.proofs.NameCounts.{at, times_of-append}
 use Rattle.cables.proofs.ProjectorBoxes.{projector_boxes}
 use Rattle.diagram_moves.specs.Rewriting.{crossing_labels}
 use Rattle.diagram_moves.proofs.Paired.{loop_labels}
@@ -248,3 +249,88 @@ put_ok p S w ys e few n g i lg (item.X (a ∷ []) ∷ rest) straight away ok = a
 put_ok p S w ys e few n g i lg (item.X (a ∷ b ∷ []) ∷ rest) straight away ok = absurd straight.0
 put_ok p S w ys e few n g i lg (item.X (a ∷ b ∷ c ∷ []) ∷ rest) straight away ok = absurd straight.0
 put_ok p S w ys e few n g i lg (item.X (a ∷ b ∷ c ∷ d ∷ f ∷ slots) ∷ rest) straight away ok = absurd straight.0
+
+-- HOW OFTEN NAMES STAND WITH OTHER NAMES AT A STUB
+pub put_count : (p : Parameters) (S : Strands) (w : ℕ) (ys : List ℕ) → length ys ≡ length (at_stub S w) → (n g i lg : ℕ) (D : List Item) → AllByRecursion HasItsSlots D → AllByRecursion (Straight S) D → times_in (crossing_labels D) w ≡ 1 →
+    ((l : ℕ) → is_member ◌==◌ (loop_labels D) l ≡ true → 2 * l ≢ w) → (z : ℕ) →
+    times_in (names_of (stub_nodes p (put S w ys) [] n g i lg D)) z + times_in (at_stub S w) z ≡ times_in (names_of (stub_nodes p S [] n g i lg D)) z + times_in ys z
+put_count p S w ys e n g i lg [] sizes straight one away z = absurd (omega (arith, one))
+put_count p S w ys e n g i lg (item.Loop l ∷ rest) sizes straight one away z =
+    let L = loop_nodes S lg (S.first l) in
+    let M = loop_nodes (put S w ys) lg (cond (2 * l == w) ys (S.first l)) in
+    let same : M ≡ L = loop_put S w ys lg (cond (2 * l == w) ys (S.first l)) ∙ ap (loop_nodes S lg) (passed (2 * l) (S.first l) (away l (here l (is_member ◌==◌ (loop_labels rest) l)))) in
+    let ih = put_count p S w ys e n g (i + 1) (lg + 1) rest sizes.1 straight.1 one (λ k m. away k (behind (k == l) (is_member ◌==◌ (loop_labels rest) k) m)) z in
+    let a = times_of-append z L (stub_nodes p S [] n g (i + 1) (lg + 1) rest) in
+    let b = times_of-append z M (stub_nodes p (put S w ys) [] n g (i + 1) (lg + 1) rest) in
+    let s = ap (λ ns. times_in (names_of ns) z) same in
+    omega (arith, ih, a, b, s)
+  where
+    passed : (i : ℕ) (xs : List ℕ) → i ≢ w → cond (i == w) ys xs ≡ xs
+    passed i xs e = grind (arith, nat_tests, e)
+
+    here : (l : ℕ) (t : Bool) → ((l == l) || t) ≡ true
+    here l t = grind (arith, nat_tests)
+
+    behind : (s t : Bool) → t ≡ true → (s || t) ≡ true
+    behind s t e = grind (arith, e)
+put_count p S w ys e n g i lg (item.X (a ∷ b ∷ c ∷ d ∷ []) ∷ rest) sizes straight one away z =
+    let T = put S w ys in
+    let C : Strands → List Node = λ U. stub_crossing p U g i (a ∷ b ∷ c ∷ d ∷ []) in
+    let Q : Strands → List Node = λ U. stub_nodes p U [] (n + 1) (g + 1) (i + 1) lg rest in
+    let la = put_length S w a ys e in let lb = put_length S w b ys e in let lc = put_length S w c ys e in let ld = put_length S w d ys e in
+    let k = times_in-append (a ∷ b ∷ c ∷ d ∷ []) (crossing_labels rest) w in
+    let four = four_times w a b c d in
+    let old = times_of-append z (C S) (Q S) in
+    let new = times_of-append z (C T) (Q T) in
+    ⊎_elim
+    (λ (none : at w a + at w b + at w c + at w d ≡ 0).
+    let same = ap (λ ns. times_in (names_of ns) z) (stubs_put p S w ys g i a b c d (apart a (omega (arith, none))) (apart b (omega (arith, none))) (apart c (omega (arith, none))) (apart d (omega (arith, none)))) in
+    let ih = put_count p S w ys e (n + 1) (g + 1) (i + 1) lg rest sizes.1 straight.1 (omega (arith, k, four, none, one)) away z in
+    omega (arith, old, new, same, ih))
+    (λ some.
+    let kept = ap (λ ns. times_in (names_of ns) z) (kept_put p S w ys (n + 1) (g + 1) (i + 1) lg rest sizes.1 (omega (arith, k, four, some, one)) away) in
+    let x = crossing-times p g i z (at_stub S a) (at_stub S b) (at_stub S c) (at_stub S d) straight.0.0 straight.0.1 in
+    let y = crossing-times p g i z (at_stub T a) (at_stub T b) (at_stub T c) (at_stub T d) (la ∙ straight.0.0 ∙ sym lc) (lb ∙ straight.0.1 ∙ sym ld) in
+    let inner = ap₂ (λ s t. crossing_inner i s t z) la lb in
+    let sa = slot a in let sb = slot b in let sc = slot c in let sd = slot d in
+    let he = one_of a b c d (times_in (at_stub S w) z) (omega (arith, k, four, some, one)) in
+    let hy = one_of a b c d (times_in ys z) (omega (arith, k, four, some, one)) in
+    omega (arith, old, new, kept, x, y, inner, sa, sb, sc, sd, he, hy))
+    (none_or (at w a + at w b + at w c + at w d))
+  where
+    apart : (a : ℕ) → at w a ≡ 0 → a ≢ w
+    apart a h e = grind (arith, nat_tests, h, e)
+
+    none_or : (k : ℕ) → (k ≡ 0) ⊎ (1 ≤ k)
+    none_or zero = inl refl
+    none_or (suc k) = inr (omega arith)
+
+    one_of : (a b c d e : ℕ) → at w a + at w b + at w c + at w d ≡ 1 → cond (a == w) e 0 + cond (b == w) e 0 + cond (c == w) e 0 + cond (d == w) e 0 ≡ e
+    one_of a b c d e h = grind (arith, nat_tests, h)
+
+    slot : (x : ℕ) → times_in (at_stub (put S w ys) x) z + cond (x == w) (times_in (at_stub S w) z) 0 ≡ times_in (at_stub S x) z + cond (x == w) (times_in ys z) 0
+    slot x =
+        ⊎_elim
+        (λ (q : x ≡ w).
+        let h = ap (λ i. times_in (at_stub (put S w ys) i) z) q ∙ ap (λ xs. times_in xs z) (put_here S w ys) in
+        let o = ap (λ i. times_in (at_stub S i) z) q in
+        let c1 : cond (x == w) (times_in (at_stub S w) z) 0 ≡ times_in (at_stub S w) z = chosen x (times_in (at_stub S w) z) q in
+        let c2 : cond (x == w) (times_in ys z) 0 ≡ times_in ys z = chosen x (times_in ys z) q in
+        omega (arith, h, o, c1, c2))
+        (λ d.
+        let h = ap (λ xs. times_in xs z) (put_other S w x ys d) in
+        let c1 : cond (x == w) (times_in (at_stub S w) z) 0 ≡ 0 = left_out x (times_in (at_stub S w) z) d in
+        let c2 : cond (x == w) (times_in ys z) 0 ≡ 0 = left_out x (times_in ys z) d in
+        omega (arith, h, c1, c2))
+        (cases_eq x w)
+      where
+        chosen : (x e : ℕ) → x ≡ w → cond (x == w) e 0 ≡ e
+        chosen x e q = grind (arith, nat_tests, q)
+
+        left_out : (x e : ℕ) → x ≢ w → cond (x == w) e 0 ≡ 0
+        left_out x e d = grind (arith, nat_tests, d)
+put_count p S w ys e n g i lg (item.X [] ∷ rest) sizes straight one away z = absurd straight.0
+put_count p S w ys e n g i lg (item.X (a ∷ []) ∷ rest) sizes straight one away z = absurd straight.0
+put_count p S w ys e n g i lg (item.X (a ∷ b ∷ []) ∷ rest) sizes straight one away z = absurd straight.0
+put_count p S w ys e n g i lg (item.X (a ∷ b ∷ c ∷ []) ∷ rest) sizes straight one away z = absurd straight.0
+put_count p S w ys e n g i lg (item.X (a ∷ b ∷ c ∷ d ∷ f ∷ slots) ∷ rest) sizes straight one away z = absurd straight.0
