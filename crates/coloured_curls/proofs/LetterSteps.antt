@@ -38,7 +38,7 @@ use Rattle.coloured_curls.proofs.StubLetters.{changed, changed_length, changed_t
 use Rattle.coloured_curls.proofs.StubSlides.{letter_at, letter_times, slides_through}
 
 -- ---- lists of items, one behind the other
-labels_times : (pre rest : List Item) (z : ℕ) → times_in (crossing_labels (pre ++ rest)) z ≡ times_in (crossing_labels pre) z + times_in (crossing_labels rest) z
+pub labels_times : (pre rest : List Item) (z : ℕ) → times_in (crossing_labels (pre ++ rest)) z ≡ times_in (crossing_labels pre) z + times_in (crossing_labels rest) z
 labels_times pre rest z = ap (λ ns. times_in ns z) (crossing_labels-append pre rest) ∙ times_in-append (crossing_labels pre) (crossing_labels rest) z
 
 loops_both : (pre rest : List Item) (l : ℕ) → is_member ◌==◌ (loop_labels (pre ++ rest)) l ≡ (is_member ◌==◌ (loop_labels pre) l || is_member ◌==◌ (loop_labels rest) l)
@@ -53,6 +53,10 @@ loops_second pre rest l m = loops_both pre rest l ∙ or_right (is_member ◌==�
 parts_of : (P : Item → Type 0) (pre rest : List Item) → AllByRecursion P (pre ++ rest) → AllByRecursion P pre × AllByRecursion P rest
 parts_of P [] rest h = (tt, h)
 parts_of P (x ∷ pre) rest h = let r = parts_of P pre rest h.1 in ((h.0, r.0), r.1)
+
+-- opposite stubs of a crossing have as many strands
+pub opposite_lengths : (S : Strands) (pre post : List Item) (w0 w1 w2 w3 : ℕ) → AllByRecursion (Straight S) (pre ++ item.X (w0 ∷ w1 ∷ w2 ∷ w3 ∷ []) ∷ post) → (length (at_stub S w0) ≡ length (at_stub S w2)) × (length (at_stub S w1) ≡ length (at_stub S w3))
+opposite_lengths S pre post w0 w1 w2 w3 h = (parts_of (Straight S) pre (item.X (w0 ∷ w1 ∷ w2 ∷ w3 ∷ []) ∷ post) h).1.0
 
 -- ---- names that are new
 pub record AreNew (names : List ℕ) (left right : ℕ) : Type 0 where
@@ -143,7 +147,7 @@ module _ (p : Parameters) (free : ℕ) (t : Bool) (S : Strands) (K : List Node) 
   rest_sizes = parts_of HasItsSlots pre (item.X ws ∷ post) are.sizes
 
   lengths : (length (at_stub S w0) ≡ length (at_stub S w2)) × (length (at_stub S w1) ≡ length (at_stub S w3))
-  lengths = (parts_of (Straight S) pre (item.X ws ∷ post) are.straight).1.0
+  lengths = opposite_lengths S pre post w0 w1 w2 w3 are.straight
 
   parts_ok : All IsNode (P S ++ (C S ++ Q S))
   parts_ok = subst (All IsNode) (all_are S) are.crossings

@@ -19,6 +19,7 @@ pub mod SwappedNames
 pub mod EdgeLetters
 pub mod EdgeSteps
 pub mod BoxSteps
+pub mod LetterWalks
 pub mod SlidLetters
 pub mod CurledBoxes
 mod Examples

@@ -90,7 +90,7 @@ put S w ys = record {
   box = S.box;
 }
 
-even_or_odd : (w : ℕ) → ((w ≡ 2 * half w) × (w % 2 ≡ 0)) ⊎ ((w ≡ 2 * half w + 1) × (w % 2 ≡ 1))
+pub even_or_odd : (w : ℕ) → ((w ≡ 2 * half w) × (w % 2 ≡ 0)) ⊎ ((w ≡ 2 * half w + 1) × (w % 2 ≡ 1))
 even_or_odd w = parity (w % 2) (omega arith) (omega arith)
   where
     parity : (r : ℕ) → w ≡ 2 * half w + r → r < 2 → ((w ≡ 2 * half w) × (w % 2 ≡ 0)) ⊎ ((w ≡ 2 * half w + 1) × (w % 2 ≡ 1))
