@@ -1,7 +1,8 @@
 //! Worked rows: words, and the parts that `clap` takes from them.
 
 use crate::{WordsFault, command_line, read_words};
-use std::test::Fail;
+use std::alloc::Global;
+use wrt_parts::Parts;
 
 /// A command, its numbers, the values of `--colors`, `--framing`, `--workers` and `--order`, and whether
 /// `--turns` and `--even` are given.
@@ -76,34 +77,44 @@ const REFUSED: [&[&str]; 12] = [
     &["bracket", "41", "2", "5", "--turns=true"],
 ];
 
-#[test]
-fn taken_words_have_their_parts(rt: HostRuntime) -> Result<(), Fail> {
-    for (words, wanted) in TAKEN {
-        let line = command_line(rt.alloc(), words)?;
-        let parts = match read_words(rt.alloc(), &line) {
-            Ok(parts) => parts,
-            Err(fault) => return Err(fault.into()),
-        };
-        let (command, numbers, options, flags) = wanted;
-        let given = [parts.colors, parts.framing, parts.workers, parts.order];
-        assert!(rt;
-            parts.command == command && parts.numbers.as_slice() == numbers,
-            "{words:?}"
-        );
-        assert!(rt;
-            given == options && [parts.turns, parts.even] == flags,
-            "{words:?}"
-        );
+/// Whether the parts are those that are wanted.
+fn are_wanted(parts: &Parts, wanted: Wanted) -> bool {
+    let (command, numbers, options, flags) = wanted;
+    parts.command == command
+        && parts.numbers.as_slice() == numbers
+        && [parts.colors, parts.framing, parts.workers, parts.order] == options
+        && [parts.turns, parts.even] == flags
+}
+
+/// Whether `clap` takes the words, and they have the parts that are wanted.
+fn have_parts(alloc: Global, words: &[&str], wanted: Wanted) -> bool {
+    match command_line(alloc, words) {
+        Ok(line) => match read_words(alloc, &line) {
+            Ok(parts) => are_wanted(&parts, wanted),
+            Err(_) => false,
+        },
+        Err(_) => false,
     }
-    Ok(())
+}
+
+/// Whether `clap` doesn't take the words.
+fn are_refused(alloc: Global, words: &[&str]) -> bool {
+    match command_line(alloc, words) {
+        Ok(line) => matches!(read_words(alloc, &line), Err(WordsFault::Refused)),
+        Err(_) => false,
+    }
 }
 
 #[test]
-fn other_words_are_refused(rt: HostRuntime) -> Result<(), Fail> {
-    for words in REFUSED {
-        let line = command_line(rt.alloc(), words)?;
-        let refused = matches!(read_words(rt.alloc(), &line), Err(WordsFault::Refused));
-        assert!(rt; refused);
+fn taken_words_have_their_parts(rt: HostRuntime) {
+    for (row, (words, wanted)) in TAKEN.into_iter().enumerate() {
+        assert!(rt; have_parts(rt.alloc(), words, wanted), "row {row}");
     }
-    Ok(())
+}
+
+#[test]
+fn other_words_are_refused(rt: HostRuntime) {
+    for (row, words) in REFUSED.into_iter().enumerate() {
+        assert!(rt; are_refused(rt.alloc(), words), "row {row}");
+    }
 }
