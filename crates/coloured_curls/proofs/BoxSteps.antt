@@ -1,11 +1,10 @@
 -- A crossing of two neighbouring strands at a stub of an edge with a box is absorbed by the box, at either side.
-use Rattle.std.proofs.Common.{◌≡◌, ◌≢◌, ℕ, suc, ◌+◌, ◌-◌, ◌*◌, ◌/◌, ◌%◌, ◌^◌, ◌<◌, ◌≤◌, ◌==◌, ◌⊎◌, Bool, true, false, cond, List, [], ◌∷◌, ◌++◌, map, length, slice_index, refl, sym, ap, ap₂, ◌∙◌, arith, ⊎_elim, All, subst, length-append}
-use Rattle.std.specs.List.{range_with_len}
+use Rattle.std.proofs.Common.{◌≡◌, ◌≢◌, ℕ, suc, ◌+◌, ◌-◌, ◌*◌, ◌%◌, ◌^◌, ◌<◌, ◌≤◌, ◌==◌, Bool, true, cond, List, [], ◌∷◌, ◌++◌, map, length, slice_index, refl, sym, ap, ap₂, ◌∙◌, arith, ⊎_elim, All, subst, length-append}
 use Rattle.std.specs.Set.{is_member}
 use Rattle.std.proofs.lemmas.Bool.{cases_eq}
 use Rattle.std.proofs.lemmas.Bool.Decides.{nat_tests}
 use Rattle.std.proofs.lemmas.List.{map-append}
-use Rattle.std.proofs.lemmas.List.Elements.{All-append, All-cons, All-head, All-nil, All-tail}
+use Rattle.std.proofs.lemmas.List.Elements.{All-cons, All-head, All-nil, All-tail}
 use Rattle.list_lemmas.specs.Times.{times_in}
 use Rattle.list_lemmas.proofs.Times.{times_in-append, times_in-cons, times_of_member}
 use Rattle.state_sums.specs.LocalSums.{crossing, rename}
@@ -28,7 +27,6 @@ use Rattle.coloured_curls.specs.Boxes.{box_at, behind}
 use Rattle.coloured_curls.proofs.AbsorbedTwists.{told_backwards}
 use Rattle.coloured_curls.proofs.BoxedCurls.{listed, box_lists}
 use Rattle.coloured_curls.proofs.BoxedLetters.{boxed_letter}
-use Rattle.coloured_curls.proofs.BoxedLoops.{half_turned}
 use Rattle.coloured_curls.proofs.EdgeLetters as letters
 use Rattle.coloured_curls.proofs.EdgeLetters.{AreNumbered, IsHigh}
 use Rattle.coloured_curls.proofs.EdgeSteps.{put_first, changed_ok}

@@ -72,7 +72,7 @@ listed f xs n l h =
 pub reversed_list : (xs : List ℕ) (c i : ℕ) → length xs ≡ suc c → i < suc c → slice_index (reverse xs) i ≡ slice_index xs (c - i)
 reversed_list xs c i l h = get_or-reverse xs i 0 (omega (arith, h, l)) ∙ ap (slice_index xs) (let e : length xs - 1 - i ≡ c - i = omega (arith, l) in e)
 
-between_lists : (f g : ℕ → ℕ) (i n : ℕ) → arcs_between f g i n ≡ zip (map f (range_with_len i n)) (map g (range_with_len i n))
+pub between_lists : (f g : ℕ → ℕ) (i n : ℕ) → arcs_between f g i n ≡ zip (map f (range_with_len i n)) (map g (range_with_len i n))
 between_lists f g i zero = refl
 between_lists f g i (suc n) = ap (λ es. (let e : ℕ × ℕ = (f i, g i) in e) ∷ es) (between_lists f g (i + 1) n)
 

@@ -1,33 +1,29 @@
 -- A crossing of two neighbouring strands goes along an edge, from the stub at one end to the stub at the other.
-use Rattle.std.proofs.Common.{◌≡◌, ◌≢◌, ℕ, suc, ◌+◌, ◌-◌, ◌*◌, ◌/◌, ◌%◌, ◌^◌, ◌<◌, ◌≤◌, ◌==◌, ◌||◌, ◌⊎◌, Bool, true, false, cond, List, [], ◌∷◌, ◌++◌, map, length, reverse, slice_index, refl, sym, ap, ap₂, ◌∙◌, arith, ⊎_elim, All}
+use Rattle.std.proofs.Common.{◌≡◌, ◌≢◌, ℕ, suc, ◌+◌, ◌*◌, ◌/◌, ◌%◌, ◌^◌, ◌<◌, ◌≤◌, ◌==◌, Bool, true, cond, List, [], ◌∷◌, ◌++◌, map, length, slice_index, refl, sym, ap, ap₂, ◌∙◌, arith, ⊎_elim}
 use Rattle.std.specs.Set.{is_member}
 use Rattle.std.proofs.lemmas.Bool.{cases_eq}
 use Rattle.std.proofs.lemmas.Bool.Decides.{nat_tests}
-use Rattle.std.proofs.lemmas.List.{get_or-reverse, length-reverse}
-use Rattle.std.proofs.lemmas.List.Elements.{All-append, All-cons}
 use Rattle.graph_parts.proofs.Ends.{is_member-get_or}
 use Rattle.list_lemmas.specs.Times.{times_in}
-use Rattle.list_lemmas.proofs.Times.{member_of_times, times_in-cons, times_of_member}
+use Rattle.list_lemmas.proofs.Times.{times_in-cons, times_of_member}
 use Rattle.state_sums.specs.LocalSums.{crossing, rename}
-use Rattle.state_sums.specs.Networks.{Node, IsNode, names_of}
+use Rattle.state_sums.specs.Networks.{Node, names_of}
 use Rattle.state_sums.specs.StateSums.{value}
-use Rattle.state_sums.proofs.WrittenNodes.{IsNode-crossing}
 use Rattle.root_quantum.specs.Parameters.{Parameters}
 use Rattle.root_quantum.specs.QuantumNumbers.{loop_value}
-use Rattle.piece_laws.proofs.RenamedNodes.{rename-append, rename_fixed}
+use Rattle.piece_laws.proofs.RenamedNodes.{rename_fixed}
 use Rattle.pd_reader.specs.declared.item.Item.{Item}
 use Rattle.pd_reader.specs.declared.item.Item.TheVariants as item
 use Rattle.cables.specs.Strands.{Strands}
-use Rattle.cables.proofs.NameCounts.{at, times_of-append, times-reverse}
-use Rattle.cables.proofs.RenamedCables.{map-reverse}
+use Rattle.cables.proofs.NameCounts.{at}
 use Rattle.diagram_moves.specs.Rewriting.{crossing_labels}
 use Rattle.diagram_moves.proofs.Paired.{loop_labels}
 use Rattle.coloured_moves.proofs.StubItems.{half, at_stub, stub_nodes}
 use Rattle.coloured_moves.proofs.StubNames.{kept_stubs, stub_sum, stub_nodes_times}
-use Rattle.coloured_curls.proofs.LetterSteps.{AreNew, AreStubs, weight, other_weight, with_letter}
-use Rattle.coloured_curls.proofs.StubLetters.{changed, changed_times, put, put_here, put_other, loop_put}
-use Rattle.coloured_curls.proofs.StubSlides.{half_turn, letter_at}
-use Rattle.coloured_curls.proofs.SwappedNames.{AreFour, swap, swap_p, swap_q, swap_u, swap_v, swap_other, swapped_back, swapped_value, map_changed, stubs_renamed}
+use Rattle.coloured_curls.proofs.LetterSteps.{AreStubs}
+use Rattle.coloured_curls.proofs.StubLetters.{changed, changed_times}
+use Rattle.coloured_curls.proofs.StubSlides.{letter_at}
+use Rattle.coloured_curls.proofs.SwappedNames.{AreFour, swap, swap_p, swap_q, swap_u, swap_v, swap_other, swapped_back, map_changed}
 
 -- The names at a stub tell its label, and stand there once; labels are those of a diagram.
 pub record AreNumbered (S : Strands) (D : List Item) : Type 0 where

@@ -1,40 +1,30 @@
 -- A crossing of two neighbouring strands steps along an edge without a box, and is absorbed by the box of an edge with one.
-use Rattle.std.proofs.Common.{◌≡◌, ◌≢◌, ℕ, suc, ◌+◌, ◌-◌, ◌*◌, ◌/◌, ◌%◌, ◌^◌, ◌<◌, ◌≤◌, ◌==◌, ◌⊎◌, Bool, true, false, cond, List, [], ◌∷◌, ◌++◌, map, length, reverse, slice_index, refl, sym, ap, ap₂, ◌∙◌, arith, ⊎_elim, All, subst, length-append}
+use Rattle.std.proofs.Common.{◌≡◌, ◌≢◌, ℕ, suc, ◌+◌, ◌-◌, ◌*◌, ◌^◌, ◌<◌, ◌≤◌, ◌==◌, Bool, true, cond, List, [], ◌∷◌, ◌++◌, map, length, reverse, slice_index, sym, ap, ap₂, ◌∙◌, arith, ⊎_elim, All}
 use Rattle.std.specs.Set.{is_member}
 use Rattle.std.proofs.lemmas.Bool.{cases_eq}
 use Rattle.std.proofs.lemmas.Bool.Decides.{nat_tests}
-use Rattle.std.proofs.lemmas.List.{get_or-reverse, length-reverse, map-append}
-use Rattle.std.proofs.lemmas.List.Elements.{All-append, All-cons, All-head, All-nil, All-tail}
+use Rattle.std.proofs.lemmas.List.{get_or-reverse, length-reverse}
+use Rattle.std.proofs.lemmas.List.Elements.{All-append, All-cons, All-tail}
 use Rattle.list_lemmas.specs.Times.{times_in}
-use Rattle.list_lemmas.proofs.Times.{times_in-append, times_of_member}
+use Rattle.list_lemmas.proofs.Times.{times_of_member}
 use Rattle.state_sums.specs.LocalSums.{crossing, rename}
-use Rattle.state_sums.specs.Networks.{Node, Term, IsNode, IsPairing, names_of}
+use Rattle.state_sums.specs.Networks.{Node, IsNode, names_of}
 use Rattle.state_sums.specs.StateSums.{value}
 use Rattle.state_sums.proofs.WrittenNodes.{IsNode-crossing}
-use Rattle.strand_algebra.specs.Projectors.{IsProjector}
 use Rattle.root_quantum.specs.Parameters.{Parameters}
 use Rattle.root_quantum.specs.QuantumNumbers.{loop_value}
 use Rattle.piece_laws.proofs.RenamedNodes.{rename-append}
 use Rattle.pd_reader.specs.declared.item.Item.{Item}
-use Rattle.cables.specs.CableNodes.{box_node}
-use Rattle.cables.specs.Cables.{loop_nodes}
 use Rattle.cables.specs.Strands.{Strands}
 use Rattle.cables.proofs.NameCounts.{times_of-append, times-reverse}
 use Rattle.diagram_moves.specs.Rewriting.{crossing_labels}
 use Rattle.diagram_moves.proofs.Paired.{loop_labels}
-use Rattle.cable_crossings.proofs.BundleTurns.{runs_exchanged}
-use Rattle.cable_crossings.proofs.StepPieces.{member_of_one}
 use Rattle.coloured_moves.proofs.StubItems.{half, at_stub, stub_nodes}
-use Rattle.coloured_curls.specs.Boxes.{box_at, behind}
-use Rattle.coloured_curls.proofs.AbsorbedTwists.{told_backwards}
-use Rattle.coloured_curls.proofs.BoxedCurls.{listed, box_lists, reversed_list}
-use Rattle.coloured_curls.proofs.BoxedLetters.{boxed_letter}
-use Rattle.coloured_curls.proofs.BoxedLoops.{half_turned}
 use Rattle.coloured_curls.proofs.EdgeLetters as letters
 use Rattle.coloured_curls.proofs.EdgeLetters.{AreNumbered, IsHigh}
 use Rattle.coloured_curls.proofs.LetterSteps.{AreNew, AreStubs, weight, other_weight, with_letter}
-use Rattle.coloured_curls.proofs.StubLetters.{changed, changed_length, changed_first, changed_second, changed_other, put, put_here, put_other, put_ok, loop_put}
-use Rattle.coloured_curls.proofs.StubSlides.{half_turn, letter_at, letter_times}
+use Rattle.coloured_curls.proofs.StubLetters.{changed, changed_length, put, put_here, put_other, put_ok, loop_put}
+use Rattle.coloured_curls.proofs.StubSlides.{half_turn, letter_at}
 use Rattle.coloured_curls.proofs.SwappedNames.{AreFour, swap, swap_p, swap_q, swapped_value, map_changed, stubs_renamed}
 
 pub put_first : (S : Strands) (w l : ℕ) (ys : List ℕ) → 2 * l ≢ w → (put S w ys).first l ≡ S.first l

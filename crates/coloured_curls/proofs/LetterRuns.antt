@@ -1,7 +1,6 @@
 -- A crossing of two neighbouring strands before a crossing of bundles, and behind it, at names that are written out: both sides are runs of steps. Strand i
 -- of a bundle has at its m-th edge, counted from below, the number 8 (32 i + m), and 1 more where it goes upwards; on the other side inner edges have 4 more.
-use Rattle.std.proofs.Common.{◌≡◌, ◌≢◌, ℕ, ◌+◌, ◌-◌, ◌*◌, ◌<◌, ◌≤◌, ◌==◌, ◌||◌, ◌&&◌, ◌⊎◌, inl, inr, nat_lt, true, false, cond, List, [], ◌++◌, refl, sym, ap, ◌∙◌, arith, ⊎_elim}
-use Rattle.std.specs.Set.{is_member}
+use Rattle.std.proofs.Common.{◌≡◌, ◌≢◌, ℕ, ◌+◌, ◌-◌, ◌*◌, ◌<◌, ◌≤◌, ◌==◌, ◌||◌, ◌⊎◌, inl, inr, nat_lt, true, false, cond, List, [], ◌++◌, sym, ap, ◌∙◌, arith, ⊎_elim}
 use Rattle.std.proofs.lemmas.Bool.{cases_eq}
 use Rattle.std.proofs.lemmas.Bool.Decides.{nat_tests}
 use Rattle.strand_words.specs.Words.{top}

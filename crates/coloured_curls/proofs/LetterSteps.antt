@@ -1,6 +1,6 @@
 -- A crossing of two neighbouring strands steps from a stub of a diagram to the opposite stub of the crossing there. The diagram's crossings stand by
 -- their stubs beside any other nodes, with which each name stands twice.
-use Rattle.std.proofs.Common.{◌≡◌, ◌≢◌, ℕ, suc, ◌+◌, ◌-◌, ◌*◌, ◌%◌, ◌<◌, ◌≤◌, ◌==◌, ◌||◌, ◌⊎◌, Bool, true, false, if◌then◌else◌, cond, List, [], ◌∷◌, ◌++◌, length, slice_index, refl, sym, ap, ap₂, ◌∙◌, arith, ⊎_elim, All, subst}
+use Rattle.std.proofs.Common.{◌≡◌, ◌≢◌, ℕ, suc, ◌+◌, ◌-◌, ◌*◌, ◌<◌, ◌≤◌, ◌==◌, ◌||◌, Bool, true, false, if◌then◌else◌, cond, List, [], ◌∷◌, ◌++◌, length, slice_index, refl, sym, ap, ap₂, ◌∙◌, arith, ⊎_elim, All, subst}
 use Rattle.std.specs.List.{AllByRecursion}
 use Rattle.std.specs.List.Sorted.{IsPermutation}
 use Rattle.std.specs.Set.{is_member}
@@ -10,7 +10,7 @@ use Rattle.std.proofs.lemmas.List.Elements.{All-append, All-cons}
 use Rattle.std.proofs.lemmas.List.Sorted.{IsPermutation-refl, IsPermutation-append_right}
 use Rattle.graph_parts.proofs.Distinct.{is_member-append}
 use Rattle.list_lemmas.specs.Times.{times_in}
-use Rattle.list_lemmas.proofs.Times.{times_in-append, times_in-cons}
+use Rattle.list_lemmas.proofs.Times.{times_in-append}
 use Rattle.state_sums.specs.Networks.{Node, IsNode, names_of}
 use Rattle.state_sums.specs.StateSums.{value}
 use Rattle.state_sums.proofs.NetworkLaws.{any_order}

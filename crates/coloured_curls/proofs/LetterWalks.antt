@@ -1,6 +1,6 @@
 -- A crossing of two neighbouring strands walks along a component, crossing by crossing and edge by edge, to the component's box, which absorbs it: so at
 -- each stub of the component it counts as its weight of going straight on.
-use Rattle.std.proofs.Common.{◌≡◌, ◌≢◌, ℕ, zero, suc, ◌+◌, ◌-◌, ◌*◌, ◌%◌, ◌<◌, ◌≤◌, ◌==◌, ◌⊎◌, inl, inr, Bool, true, List, [], ◌∷◌, ◌++◌, length, reverse, slice_index, refl, sym, ap, ap₂, ◌∙◌, arith, ⊎_elim, All, subst, length-append, Contains}
+use Rattle.std.proofs.Common.{◌≡◌, ℕ, zero, suc, ◌+◌, ◌-◌, ◌*◌, ◌%◌, ◌<◌, ◌≤◌, ◌⊎◌, inl, inr, Bool, List, [], ◌∷◌, ◌++◌, length, reverse, refl, sym, ap, ◌∙◌, arith, ⊎_elim, All, subst, length-append, Contains}
 use Rattle.std.specs.List.{AllByRecursion}
 use Rattle.std.proofs.lemmas.Bool.Decides.{nat_tests}
 use Rattle.std.proofs.lemmas.List.{length-reverse}
@@ -10,7 +10,6 @@ use Rattle.list_lemmas.specs.Times.{times_in}
 use Rattle.list_lemmas.proofs.Times.{times_in-append}
 use Rattle.state_sums.specs.Networks.{Node, Term, IsNode, IsPairing, names_of}
 use Rattle.state_sums.specs.StateSums.{value}
-use Rattle.state_sums.proofs.WrittenNodes.{IsNode-crossing}
 use Rattle.strand_algebra.specs.Projectors.{IsProjector}
 use Rattle.root_quantum.specs.Parameters.{Parameters}
 use Rattle.root_quantum.specs.QuantumNumbers.{loop_value}
@@ -20,7 +19,7 @@ use Rattle.pd_reader.specs.Items.{HasItsSlots}
 use Rattle.planar_check.specs.Components.{strand_edges}
 use Rattle.cables.specs.CableNodes.{box_node}
 use Rattle.cables.specs.Strands.{Strands}
-use Rattle.cables.proofs.NameCounts.{at, times_of-append}
+use Rattle.cables.proofs.NameCounts.{at}
 use Rattle.diagram_moves.specs.Rewriting.{crossing_labels}
 use Rattle.coloured_moves.proofs.StubItems.{half, stub_half, stubs, stubbed, seen_after, at_stub, stub_nodes}
 use Rattle.coloured_curls.proofs.BoxedLoops.{half_turned}

@@ -20,6 +20,7 @@ pub mod EdgeLetters
 pub mod EdgeSteps
 pub mod BoxSteps
 pub mod LetterWalks
+pub mod CurlTwists
 pub mod CutWalks
 pub mod SlidLetters
 pub mod CurledBoxes

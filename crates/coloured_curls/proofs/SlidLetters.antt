@@ -9,13 +9,12 @@ use Rattle.state_sums.proofs.NodeNames.{names_of-rename}
 use Rattle.piece_laws.specs.Pieces.{ArePaired}
 use Rattle.strand_words.specs.Grids.{crossed, raised}
 use Rattle.strand_words.specs.Grids as words
-use Rattle.strand_words.specs.Words.{Letter, SameWord, over, under}
+use Rattle.strand_words.specs.Words.{Letter, SameWord, over}
 use Rattle.strand_words.proofs.Slides.{IsCrossing, slide_grid}
-use Rattle.word_networks.specs.Spelling.{Spells}
 use Rattle.word_networks.specs.Steps.{Step, step_nodes}
 use Rattle.word_networks.proofs.Grids.{Spells-append}
 use Rattle.cable_crossings.proofs.BundleTriangle.{bit, bit_end, bit_inner}
-use Rattle.cable_crossings.proofs.CrossingSteps.{long, long-few, long-some, crossing_nodes, crossing_renamed, crossing_spells}
+use Rattle.cable_crossings.proofs.CrossingSteps.{long, long-few, crossing_nodes, crossing_renamed, crossing_spells}
 use Rattle.cable_crossings.proofs.NameCodes.{code, named_by, named_by-code}
 use Rattle.cable_crossings.proofs.StepPieces.{runs_anywhere}
 use Rattle.cable_crossings.proofs.ThreeRuns.{three_nodes}

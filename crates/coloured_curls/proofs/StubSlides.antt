@@ -1,33 +1,21 @@
 -- A crossing of two neighbouring strands at a stub slides through the crossing of the stub to the opposite one.
-use Rattle.std.proofs.Common.{◌≡◌, ◌≢◌, ℕ, suc, ◌+◌, ◌-◌, ◌*◌, ◌%◌, ◌<◌, ◌≤◌, ◌==◌, ◌⊎◌, Bool, true, if◌then◌else◌, cond, List, [], ◌∷◌, ◌++◌, length, slice_index, refl, sym, ap, ap₂, ◌∙◌, arith, ⊎_elim, All, subst, append_assoc}
-use Rattle.std.specs.List.{AllByRecursion}
-use Rattle.std.specs.List.Sorted.{IsPermutation}
-use Rattle.std.specs.Set.{is_member}
-use Rattle.std.proofs.lemmas.Bool.{cases_eq}
-use Rattle.std.proofs.lemmas.Bool.Decides.{nat_tests}
+use Rattle.std.proofs.Common.{◌≡◌, ℕ, suc, ◌+◌, ◌-◌, ◌<◌, ◌≤◌, Bool, if◌then◌else◌, List, [], ◌∷◌, ◌++◌, length, slice_index, refl, sym, ap, ◌∙◌, arith, All, append_assoc}
 use Rattle.std.proofs.lemmas.List.Elements.{All-append, All-cons, All-nil}
-use Rattle.std.proofs.lemmas.List.Sorted.{All-permutation, IsPermutation-refl, IsPermutation-append_right}
 use Rattle.list_lemmas.specs.Times.{times_in}
 use Rattle.list_lemmas.proofs.Times.{times_in-append, times_in-cons, times_of_member}
 use Rattle.state_sums.specs.LocalSums.{crossing, AreSkeinNumbers}
 use Rattle.state_sums.specs.Networks.{Node, IsNode, names_of}
 use Rattle.state_sums.specs.StateSums.{value}
-use Rattle.state_sums.proofs.NetworkLaws.{any_order}
 use Rattle.state_sums.proofs.WrittenNodes.{IsNode-crossing}
-use Rattle.root_quantum.specs.Parameters.{Parameters}
-use Rattle.root_quantum.specs.QuantumNumbers.{inverse_root, loop_value}
 use Rattle.piece_laws.specs.Pieces.{ArePaired}
-use Rattle.piece_laws.proofs.ParameterNumbers.{skein_numbers}
-use Rattle.cables.specs.CableNodes.{crossing_cable}
-use Rattle.cables.proofs.GridNames.{crossing-times}
 use Rattle.cables.proofs.NameCounts.{at, times_of-append}
 use Rattle.cable_crossings.proofs.BundleTurns.{runs_exchanged}
 use Rattle.cable_crossings.proofs.CrossingSteps.{long, crossing_nodes}
 use Rattle.cable_crossings.proofs.CrossingSteps as steps
-use Rattle.cable_crossings.proofs.ToldCrossings.{IsTold, told, told_from}
+use Rattle.cable_crossings.proofs.ToldCrossings.{IsTold}
 use Rattle.coloured_curls.proofs.AbsorbedTwists.{told_backwards, told_exchanged}
 use Rattle.coloured_curls.proofs.SlidLetters.{SameEnds, letter_slides}
-use Rattle.coloured_curls.proofs.StubLetters.{changed, changed_length, changed_first, changed_second, changed_other, changed_times, crossing_ok}
+use Rattle.coloured_curls.proofs.StubLetters.{changed, changed_length, changed_first, changed_second, changed_other}
 
 -- the small crossing at two places of a list
 abbrev pub letter_at : ℕ → ℕ → List ℕ → ℕ → ℕ → ℕ → Node

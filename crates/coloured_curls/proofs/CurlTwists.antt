@@ -1,0 +1,232 @@
+-- The cabled crossing of a curl beside any other nodes: a factor for each strand times a twist of the strands, whose letters have new names. So where the
+-- twist's letters count as their weights of going straight on, the crossing counts as mu_n to the power of the curl times the strands.
+use Rattle.std.proofs.Common.{◌≡◌, ℕ, suc, ◌+◌, ◌-◌, ◌*◌, ◌/◌, ◌%◌, ◌^◌, ◌<◌, ◌≤◌, ◌==◌, Bool, true, cond, List, ◌++◌, map, length, reverse, slice_index, sym, ap, ap₂, ◌∙◌, arith, All, ◌||◌}
+use Rattle.std.specs.List.{range_with_len, zip}
+use Rattle.std.specs.Set.{is_member}
+use Rattle.std.proofs.lemmas.List.{length-reverse}
+use Rattle.std.proofs.lemmas.List.FromFn.{length-map-range_with_len}
+use Rattle.std.proofs.lemmas.Nat.{mul-mod_second}
+use Rattle.graph_parts.proofs.Counting.{is_member-map}
+use Rattle.graph_parts.proofs.Distinct.{is_member-append}
+use Rattle.list_lemmas.specs.Times.{times_in}
+use Rattle.list_lemmas.proofs.Ranges.{is_member-range}
+use Rattle.root_quantum.specs.Parameters.{Parameters}
+use Rattle.root_quantum.specs.QuantumNumbers.{inverse_root, loop_value}
+use Rattle.state_sums.specs.Networks.{Node, IsNode, names_of}
+use Rattle.state_sums.specs.StateSums.{value}
+use Rattle.piece_laws.specs.Arcs.{arcs_of}
+use Rattle.piece_laws.proofs.NameCounts.{bound, below_bound}
+use Rattle.piece_laws.proofs.ParameterNumbers.{skein_numbers}
+use Rattle.box_laws.proofs.CurlFactors.{curl_factor}
+use Rattle.planar_check.specs.declared.sign.Sign.{Sign}
+use Rattle.planar_check.specs.declared.sign.Sign.TheVariants as signs
+use Rattle.strand_words.specs.Grids.{crossed}
+use Rattle.strand_words.specs.Words.{Letter}
+use Rattle.strand_words.specs.Boxes as words
+use Rattle.state_sums.proofs.Congruent.{mul_same_mod}
+use Rattle.word_networks.specs.GridNetworks.{grid_nodes}
+use Rattle.diagram_moves.proofs.Curling.{is_plus}
+use Rattle.cables.proofs.NameCounts.{times_of-append}
+use Rattle.cable_crossings.proofs.CrossingSteps.{crossing_nodes, long}
+use Rattle.cable_crossings.proofs.ToldCrossings.{IsTold, told, told_from}
+use Rattle.coloured_moves.proofs.CurledStrands.{curl_cable, curl_twist, condition}
+use Rattle.coloured_curls.specs.Boxes.{letter_nodes, names_behind, arcs_between}
+use Rattle.coloured_curls.proofs.AbsorbedTwists.{count, twist_count}
+use Rattle.coloured_curls.proofs.BoxedCurls.{listed, reversed_list, between_lists}
+use Rattle.coloured_curls.proofs.ClosedTwists as twists
+use Rattle.coloured_curls.proofs.GridCounts.{among}
+
+module _ (p : Parameters) (free g k c : ℕ) (sign : Sign) (E W M : List ℕ) (few : suc c ≤ 8) (long_E : length E ≡ suc c) (long_W : length W ≡ suc c) (long_M : length M ≡ suc c)
+    (R0 : List Node) (ok_X : All IsNode (curl_cable p g k sign E W M)) (ok_0 : All IsNode R0)
+    (twice : (z : ℕ) → 1 ≤ times_in (names_of (curl_cable p g k sign E W M ++ R0)) z → times_in (names_of (curl_cable p g k sign E W M ++ R0)) z ≡ 2) where
+  abbrev pub m : ℕ
+  m = p.modulus
+
+  abbrev pub delta : ℕ
+  delta = loop_value p
+
+  abbrev pub a : ℕ
+  a = p.root
+
+  abbrev pub b : ℕ
+  b = inverse_root p
+
+  abbrev pub s : Bool
+  s = is_plus sign
+
+  abbrev pub N : ℕ
+  N = suc c
+
+  abbrev pub x : ℕ
+  x = (crossed a b s 0).straight
+
+  abbrev pub y : ℕ
+  y = (crossed a b s 0).hook
+
+  abbrev pub V : List Node → ℕ
+  V ns = value m delta record { nodes = ns; free_loops = free }
+
+  abbrev pub X1 : List Node
+  X1 = curl_cable p g k sign E W M
+
+  abbrev pub into : Sign → List ℕ
+  into signs.Plus = E
+  into signs.Minus = W
+
+  abbrev pub out_of : Sign → List ℕ
+  out_of signs.Plus = W
+  out_of signs.Minus = E
+
+  pub long_into : (sg : Sign) → length (into sg) ≡ N
+  long_into signs.Plus = long_E
+  long_into signs.Minus = long_W
+
+  pub long_out : (sg : Sign) → length (out_of sg) ≡ N
+  long_out signs.Plus = long_W
+  long_out signs.Minus = long_E
+
+  pub told_curl : (sg : Sign) → All IsNode (curl_cable p g k sg E W M) → IsTold m delta (curl_cable p g k sg E W M) (crossed a b (is_plus sg) 0).straight (crossed a b (is_plus sg) 0).hook (into sg) (out_of sg) M (reverse M)
+  told_curl signs.Plus h = told p delta g k E W M (reverse M) (long_E ∙ sym long_M) (long_W ∙ sym (length-reverse M ∙ long_M)) h
+  told_curl signs.Minus h =
+      let sides : ℕ → List ℕ = λ i. cond (i == 0) E (cond (i == 1) M (cond (i == 2) (reverse M) W)) in
+      told_from p delta g k sides (long_E ∙ sym (length-reverse M ∙ long_M)) (long_M ∙ sym long_W) h 3 (omega arith)
+
+  pub t : IsTold m delta X1 x y (into sign) (out_of sign) M (reverse M)
+  t = told_curl sign ok_X
+
+  abbrev pub v : ℕ → ℕ → ℕ
+  v = t.v
+
+  abbrev pub h : ℕ → ℕ → ℕ
+  h = t.h
+
+  in_at : (j : ℕ) → j < N → v 0 j ≡ slice_index (into sign) j
+  in_at j l = t.south j (let e = long_into sign in omega (arith, e, l))
+
+  out_at : (i : ℕ) → i < N → h i N ≡ slice_index (out_of sign) i
+  out_at i l = ap (λ w. h i (long w)) (sym (long_into sign)) ∙ t.east i (let e = long_out sign in omega (arith, e, l))
+
+  meet : (j : ℕ) → j < N → v N j ≡ h (c - j) 0
+  meet j l =
+      let lo = long_out sign in
+      let li = long_into sign in
+      ap (λ w. v (long w) j) (sym lo) ∙ t.north j (omega (arith, li, l)) ∙ ap (slice_index M) (let e : length (into sign) - 1 - j ≡ c - j = omega (arith, li) in e)
+      ∙ sym (t.west (c - j) (omega (arith, lo, l)) ∙ ap (slice_index (reverse M)) (let e : length (out_of sign) - 1 - (c - j) ≡ j = omega (arith, lo, l) in e) ∙ reversed_list M c j long_M l)
+
+  abbrev pub L1 : (ℕ → ℕ) → List ℕ
+  L1 q = map q (range_with_len 0 N)
+
+  -- ---- a number past all names
+  abbrev pub some_v : List ℕ
+  some_v = map (λ w. v (w / 16) (w % 16)) (range_with_len 0 256)
+
+  abbrev pub some_h : List ℕ
+  some_h = map (λ w. h (w / 16) (w % 16)) (range_with_len 0 256)
+
+  abbrev pub big : ℕ
+  big = bound (some_v ++ (some_h ++ names_of R0))
+
+  first_in : (xs ys : List ℕ) (z : ℕ) → is_member ◌==◌ xs z ≡ true → is_member ◌==◌ (xs ++ ys) z ≡ true
+  first_in xs ys z m = is_member-append xs ys z ∙ plain (is_member ◌==◌ xs z) (is_member ◌==◌ ys z) m
+    where
+      plain : (s t : Bool) → s ≡ true → (s || t) ≡ true
+      plain s t e = grind (arith, e)
+
+  second_in : (xs ys : List ℕ) (z : ℕ) → is_member ◌==◌ ys z ≡ true → is_member ◌==◌ (xs ++ ys) z ≡ true
+  second_in xs ys z m = is_member-append xs ys z ∙ plain (is_member ◌==◌ xs z) (is_member ◌==◌ ys z) m
+    where
+      plain : (s t : Bool) → t ≡ true → (s || t) ≡ true
+      plain s t e = grind (arith, e)
+
+  tabled : (q : ℕ → ℕ → ℕ) (i j : ℕ) → i ≤ 8 → j ≤ 8 → is_member ◌==◌ (map (λ w. q (w / 16) (w % 16)) (range_with_len 0 256)) (q i j) ≡ true
+  tabled q i j li lj =
+      let w = 16 * i + j in
+      let e : w / 16 ≡ i = omega (arith, lj) in
+      let d : w % 16 ≡ j = omega (arith, lj) in
+      ap (is_member ◌==◌ (map (λ w. q (w / 16) (w % 16)) (range_with_len 0 256))) (sym (ap₂ q e d))
+      ∙ is_member-map (λ w. q (w / 16) (w % 16)) (range_with_len 0 256) w (is_member-range 0 256 w (omega arith) (omega (arith, li, lj)))
+
+  pub low_v : (i j : ℕ) → i ≤ N → j < N → v i j < big
+  low_v i j li lj = below_bound (v i j) (some_v ++ (some_h ++ names_of R0)) (first_in some_v (some_h ++ names_of R0) (v i j) (tabled v i j (omega (arith, li, few)) (omega (arith, lj, few))))
+
+  low_h : (i j : ℕ) → i < N → j ≤ N → h i j < big
+  low_h i j li lj = below_bound (h i j) (some_v ++ (some_h ++ names_of R0)) (second_in some_v (some_h ++ names_of R0) (h i j) (first_in some_h (names_of R0) (h i j) (tabled h i j (omega (arith, li, few)) (omega (arith, lj, few)))))
+
+  pub low_rest : (z : ℕ) → is_member ◌==◌ (names_of R0) z ≡ true → z < big
+  low_rest z e = below_bound z (some_v ++ (some_h ++ names_of R0)) (second_in some_v (some_h ++ names_of R0) z (second_in some_h (names_of R0) z e))
+
+  -- ---- the crossing is a twist
+  abbrev pub crossing_at : List Node
+  crossing_at = grid_nodes x y v h 0 N N
+
+  as_grid : V (X1 ++ R0) ≡ V (crossing_at ++ R0)
+  as_grid = t.same free R0 ok_0 ∙ ap₂ (λ i j. V (crossing_nodes x y v h i j ++ R0)) (long_out sign) (long_into sign)
+
+  grid_twice : (z : ℕ) → 1 ≤ times_in (names_of (crossing_at ++ R0)) z → times_in (names_of (crossing_at ++ R0)) z ≡ 2
+  grid_twice z one =
+      let p1 = times_of-append z crossing_at R0 in
+      let p2 = times_of-append z X1 R0 in
+      let e : times_in (names_of X1) z ≡ times_in (names_of crossing_at) z = t.times z ∙ ap₂ (λ i j. times_in (names_of (crossing_nodes x y v h i j)) z) (long_out sign) (long_into sign) in
+      let two = twice z (omega (arith, p1, p2, e, one)) in
+      omega (arith, p1, p2, e, two)
+
+  abbrev pub u : List Letter
+  u = words.twist a b s 0 c N
+
+  abbrev pub T : ℕ → ℕ
+  T = names_behind u (v 0) big
+
+  abbrev pub leaves : ℕ → ℕ
+  leaves j = h (c - j) N
+
+  abbrev pub L : List Node
+  L = letter_nodes u (v 0) big
+
+  abbrev pub A : List Node
+  A = arcs_of (arcs_between T leaves 0 N)
+
+  pub turned_value : V (crossing_at ++ R0) ≡ curl_twist p 1 sign ^ N * V ((L ++ A) ++ R0) % m
+  turned_value = twists.closed_twist a b s c few v h big R0 ok_0 meet low_v low_h low_rest grid_twice m delta free (curl_twist p 1 sign) (skein_numbers p).skein (condition p sign)
+
+  pub A_is : A ≡ arcs_of (zip (L1 T) (L1 leaves))
+  A_is = ap arcs_of (between_lists T leaves 0 N)
+
+  long_list : (q : ℕ → ℕ) → length (L1 q) ≡ N
+  long_list q = length-map-range_with_len q 0 N
+
+  pub into_list : L1 (v 0) ≡ into sign
+  into_list = sym (listed (v 0) (into sign) N (long_into sign) (λ i l. sym (in_at i l)))
+
+  pub leaves_list : L1 leaves ≡ reverse (out_of sign)
+  leaves_list =
+      sym (listed leaves (reverse (out_of sign)) N (length-reverse (out_of sign) ∙ long_out sign) (λ i l. reversed_list (out_of sign) c i (long_out sign) l ∙ sym (out_at (c - i) (omega arith))))
+
+  -- ---- the factor
+  factor : (sg : Sign) → (curl_twist p 1 sg ^ N * (crossed a b (is_plus sg) 0).straight ^ (N * c)) % m ≡ curl_twist p N sg % m
+  factor signs.Plus = ap (λ i. (curl_twist p 1 signs.Plus ^ i * a ^ (i * c)) % m) (let e : N ≡ c + 1 = omega arith in e) ∙ (curl_factor p c).positive ∙ ap (λ i. curl_twist p i signs.Plus % m) (let e : c + 1 ≡ N = omega arith in e)
+  factor signs.Minus = ap (λ i. (curl_twist p 1 signs.Minus ^ i * b ^ (i * c)) % m) (let e : N ≡ c + 1 = omega arith in e) ∙ (curl_factor p c).negative ∙ ap (λ i. curl_twist p i signs.Minus % m) (let e : c + 1 ≡ N = omega arith in e)
+
+
+  -- how often a name stands
+  pub strands_twice : (z : ℕ) → 1 ≤ times_in (into sign) z + times_in (out_of sign) z + times_in (names_of R0) z → times_in (into sign) z + times_in (out_of sign) z + times_in (names_of R0) z ≡ 2
+  strands_twice z one =
+      let q = twists.whole_times a b s c few v h big R0 ok_0 meet low_v low_h low_rest grid_twice z in
+      let e : among (v 0) 0 N z ≡ times_in (into sign) z = ap (λ ns. times_in ns z) into_list in
+      let o : among (λ k. h k N) 0 N z ≡ times_in (out_of sign) z = ap (λ ns. times_in ns z) (sym (listed (λ k. h k N) (out_of sign) N (long_out sign) (λ i l. sym (out_at i l)))) in
+      let p1 = times_of-append z crossing_at R0 in
+      let two = grid_twice z (omega (arith, q, e, o, p1, one)) in
+      omega (arith, q, e, o, p1, two, one)
+
+  -- THE CURL, WHERE ITS TWIST'S LETTERS ARE FACTORS
+  pub curl_counts : (Z : ℕ) → V ((L ++ A) ++ R0) ≡ x ^ count u * Z % m → V (X1 ++ R0) ≡ curl_twist p N sign * Z % m
+  curl_counts Z absorbed =
+      let w = curl_twist p 1 sign ^ N in
+      let r = x ^ (N * c) in
+      as_grid
+      ∙ turned_value
+      ∙ ap (λ j. w * j % m) absorbed
+      ∙ mul-mod_second w (x ^ count u * Z) m
+      ∙ ap (λ i. (w * (x ^ i * Z)) % m) (twist_count a b s 0 c N)
+      ∙ ap (λ j. j % m) (let e : w * (r * Z) ≡ Z * (w * r) = omega arith in e)
+      ∙ mul_same_mod m Z (w * r) (curl_twist p N sign) (factor sign)
+      ∙ ap (λ j. j % m) (let e : Z * curl_twist p N sign ≡ curl_twist p N sign * Z = omega arith in e)
