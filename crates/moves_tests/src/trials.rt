@@ -6,16 +6,15 @@ ghost use Rattle.pd_reader.specs.Items.{item_labels};
 ghost use Rattle.planar_check.specs.Components.{greatest};
 
 use crate::steps::{Sizes, all_steps, crossings, new_crossing, taking_back};
-use arc_pairing::Turns;
 use diagram_moves::{Factor, MoveFault};
-use frontier_sweep::{Chooser, Order, contract_in_order};
+use frontier_sweep::{Chooser, Order};
 use move_script::{GREATEST_LABEL, Moved, apply};
 use pd_reader::{Item, labels};
 use planar_check::Planar;
 use root_quantum::Params;
 use script_reader::Step;
-use skein_network::plain_cable;
 use std::alloc::{AllocError, Global};
+use wrt_values::bracket_value;
 
 /// A prime modulus, a root A of the order 40 and the level 10.
 pub(crate) const MODULUS: u64 = 1_000_000_241;
@@ -65,10 +64,9 @@ fn made(alloc: Global, diagram: &Planar, step: &Step) -> Result<Moved, MoveFault
 
 /// The bracket.
 fn bracket(alloc: Global, params: &Params, diagram: &Planar) -> Option<u64> {
-    let network = plain_cable(alloc, params, diagram.diagram()).ok()?;
-    let mut turns = Turns::new();
     let greedy = Chooser::keep(Order::Greedy);
-    contract_in_order(alloc, params, &network, &greedy, &mut turns).ok()
+    let value = bracket_value(alloc, params, diagram, &greedy).ok()?;
+    Some(value.residue)
 }
 
 /// x is y times the number, modulo the prime.

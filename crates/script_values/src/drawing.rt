@@ -45,7 +45,7 @@ fn listed_bracket(alloc: Global, params: &Params, planar: &Planar) -> Result<Val
     ensures { Gives (bracket_value listed_of params.now planar.now) result }
 {
     let listed = Chooser::keep(Order::Listed);
-    bracket_value(alloc, params, planar.diagram(), &listed)
+    bracket_value(alloc, params, planar, &listed)
 }
 
 /// The surgery value of a framed diagram whose crossings are taken in the order in which they are listed, by one worker.

@@ -4,6 +4,7 @@ pub mod ItemNodes
 pub mod ItemSteps
 pub mod Progresses
 pub mod Ends
+pub mod Miscounts
 pub mod FoundProjectors
 pub mod LentTerms
 pub mod ListColours

@@ -47,12 +47,11 @@ module _ (p : Parameters) (sweep : Sweep) (items flat : List Item) (is_flat : pl
       subst Q (sym behind_plane) (ends (item_order sweep.order flat) (with_order p sweep flat) of stop told (subst P same h))
 
   -- the value is
-  pub value_stops : (seen valued : List Item) → seen ≡ flat → valued ≡ flat → (next : View → ℕ) → item_order sweep.order seen ≡ Ok next → (fault : ValueFault) (stop : Stop) → stop ≡ stop_of_value fault
-      → Fails (bracket_value next p valued) fault → Stops (Is (diagram_report p sweep items)) stop
-  value_stops seen valued same also next ordered fault stop told h =
-      let P : List Item → Type 0 = λ is. Fails (bracket_value next p is) fault in
+  pub value_stops : (seen : List Item) → seen ≡ flat → (next : View → ℕ) → item_order sweep.order seen ≡ Ok next → (fault : ValueFault) (stop : Stop) → stop ≡ stop_of_value fault
+      → Fails (bracket_value next p flat) fault → Stops (Is (diagram_report p sweep items)) stop
+  value_stops seen same next ordered fault stop told h =
       let Q : Result (List ℕ) Refusal → Type 0 = λ report. Stops (Is report) stop in
       let T : Stop → Type 0 = λ s. Stops (Is (with_order p sweep flat next)) s in
       let of_flat : item_order sweep.order flat ≡ Ok next = ap (item_order sweep.order) (sym same) ∙ ordered in
       let e = behind_plane ∙ ap (λ order. after order (with_order p sweep flat)) of_flat in
-      subst Q (sym e) (subst T (sym told) (value_stopped (bracket_value next p flat) (with_value sweep) fault (subst P also h)))
+      subst Q (sym e) (subst T (sym told) (value_stopped (bracket_value next p flat) (with_value sweep) fault h))

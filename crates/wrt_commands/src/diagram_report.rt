@@ -69,8 +69,7 @@ pub(crate) fn diagram_report(
     ensures { Answers (Is (diagram_report params.now sweep.now diagram)) string_bytes result }
 {
     let plane = check_planar(alloc, diagram)?;
-    let diagram = plane.diagram();
-    let chooser = item_chooser(alloc, &sweep.order, diagram.items())?;
-    let value = bracket_value(alloc, params, diagram, &chooser)?;
+    let chooser = item_chooser(alloc, &sweep.order, plane.diagram().items())?;
+    let value = bracket_value(alloc, params, &plane, &chooser)?;
     Ok(value_report(alloc, value, sweep.turns)?)
 }

@@ -1,4 +1,5 @@
 pub mod MissingInverses
+mod Ones
 pub mod OneResidue
 mod Examples
 mod Surgeries

@@ -1,16 +1,43 @@
-//! The bracket of a diagram.
+//! The bracket of a diagram: its value with all components coloured 1.
 
+ghost use Rattle.std.specs.Prelude.{◌≡◌, IfOk};
+ghost use Rattle.state_sums.specs.Networks.{WeightsBelow};
+ghost use Rattle.diagram_brackets.specs.Brackets.{bracket_network};
 ghost use Rattle.frontier_sweep.specs.Next.{next_of};
 ghost use Rattle.wrt_values.specs.Values.{Gives, bracket_value};
 
 use crate::fault::ValueFault;
 use crate::sweep::network_value;
 use crate::value::Value;
+use arc_pairing::Network;
 use frontier_sweep::{Chooser, Order};
-use pd_reader::Diagram;
+use planar_check::Planar;
 use root_quantum::Params;
-use skein_network::plain_cable;
-use std::alloc::Global;
+use skein_network::{CableFault, cable};
+use std::alloc::{AllocError, Global};
+use wenzl_table::Table;
+
+/// The cable of the diagram whose components all have colour 1, which is the network of its bracket. (Lickorish, ch. 13.)
+///
+/// No box stands in it, so the table is one for no colour of at least 2. The only error is want of memory.
+fn plain_cable(alloc: Global, params: &Params, diagram: &Planar) -> Result<Network, AllocError>
+    ensures network { IfOk result (λ network. network ≡ bracket_network params.now diagram.now) }
+    ensures weights { IfOk result (λ network. WeightsBelow params.now.modulus network.nodes) }
+{
+    let ones = vec![in alloc; 1; diagram.components() as usize]?;
+    let table = Table::new(alloc, *params, 1)?;
+    let mut notes = table.notes(alloc)?;
+    // What a diagram keeps is told by the contract of its items.
+    let _items = diagram.diagram().items();
+    let fault = match cable(alloc, diagram, &ones, &table, &mut notes) {
+        Ok(network) => return Ok(network),
+        Err(fault) => fault,
+    };
+    match fault {
+        CableFault::Memory => Err(AllocError),
+        _ => unreachable!(),
+    }
+}
 
 /// The Kauffman bracket of the diagram: its value with all components coloured 1, and its framing not
 /// looked at, with the turns that the sum takes when crossings are taken in the order.
@@ -20,7 +47,7 @@ use std::alloc::Global;
 pub fn bracket_value(
     alloc: Global,
     params: &Params,
-    diagram: &Diagram,
+    diagram: &Planar,
     order: &Chooser<Order>,
 ) -> Result<Value, ValueFault>
     // The definition's value, or its refusal, or want of memory.

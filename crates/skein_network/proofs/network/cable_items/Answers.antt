@@ -11,7 +11,7 @@ use Rattle.skein_network.specs.Colourings.{strands_in}
 use Rattle.skein_network.specs.Progress.{standing_of}
 use Rattle.skein_network.proofs.Progresses.{item_low, along_next, along_end}
 use Rattle.skein_network.proofs.Ends.{none_left}
-use Rattle.diagram_brackets.proofs.Strands.{never_miscounted}
+use Rattle.skein_network.proofs.Miscounts.{never_miscounted}
 use Rattle.skein_network.proofs.network.cable_items.Goals as goal
 
 pub push_item-requires-clause-low : goal.push_item-requires-clause-low
