@@ -20,6 +20,8 @@ pub mod EdgeLetters
 pub mod EdgeSteps
 pub mod BoxSteps
 pub mod LetterWalks
+pub mod RenumberedLetters
+pub mod LetterWords
 pub mod CurlTwists
 pub mod CutWalks
 pub mod SlidLetters
