@@ -153,7 +153,7 @@ module _ (p : Parameters) (free : ℕ) (t : Bool) (S : Strands) (K : List Node) 
         let G : ℕ → Type 0 = λ i. Stands i in
         ⊎_elim (λ e. subst F (sym e.0) (all.0 (subst G e.0 h))) (λ e. subst F (sym e.0) (all.1 (subst G e.0 h))) (even_or_odd w)
 
-    module _ (R : List Item) (sizes : AllByRecursion HasItsSlots R) (is : stubbed [] R ≡ D) (cases : (l : ℕ) → (AllFree l) ⊎ (IsPlain l)) where
+    module _ (R : List Item) (sizes : AllByRecursion HasItsSlots R) (is : stubbed [] R ≡ D) (start : ℕ) (cases : (l : ℕ) → Joined (strand_edges R) start l → (AllFree l) ⊎ (IsPlain l)) where
       stands_at : (pre post : List Item) (w0 w1 w2 w3 w : ℕ) → D ≡ pre ++ item.X (w0 ∷ w1 ∷ w2 ∷ w3 ∷ []) ∷ post → 1 ≤ at w w0 + at w w1 + at w w2 + at w w3 → Stands w
       stands_at pre post w0 w1 w2 w3 w e h =
           let a = ap (λ xs. times_in (crossing_labels xs) w) e in
@@ -165,13 +165,15 @@ module _ (p : Parameters) (free : ℕ) (t : Bool) (S : Strands) (K : List Node) 
       own : (w : ℕ) → at w w ≡ 1
       own w = grind (arith, nat_tests)
 
-      from_to : (w v a b : ℕ) → half w ≡ a → half v ≡ b → Stands w → Stands v → (IsFree D w → IsFree D v) → AllFree a → AllFree b
-      from_to w v a b ea eb sw sv f all =
+      from_to : (w v a b : ℕ) → half w ≡ a → half v ≡ b → Stands w → Stands v → (IsFree D w → IsFree D v) → Joined (strand_edges R) start b → AllFree a → AllFree b
+      from_to w v a b ea eb sw sv f here all =
           let P : ℕ → Type 0 = λ i. AllFree i in
-          subst P eb (spread v (cases (half v)) sv (f (at_label w sw (subst P (sym ea) all))))
+          let Q : ℕ → Type 0 = λ i. Joined (strand_edges R) start i in
+          subst P eb (spread v (cases (half v) (subst Q (sym eb) here)) sv (f (at_label w sw (subst P (sym ea) all))))
 
-      one_edge : (a b : ℕ) → Contains (strand_edges R) (a, b) → (AllFree a → AllFree b) × (AllFree b → AllFree a)
-      one_edge a b w =
+      one_edge : (a b : ℕ) → Contains (strand_edges R) (a, b) → Joined (strand_edges R) start a → (AllFree a → AllFree b) × (AllFree b → AllFree a)
+      one_edge a b w here =
+          let there : Joined (strand_edges R) start b = on here (along w) in
           let r = edge_item R [] sizes a b w in
           let pre = r.0 in let post = r.1 in let w0 = r.2 in let w1 = r.3 in let w2 = r.4 in let w3 = r.5 in
           let e : D ≡ pre ++ item.X (w0 ∷ w1 ∷ w2 ∷ w3 ∷ []) ∷ post = sym is ∙ r.6 in
@@ -181,16 +183,16 @@ module _ (p : Parameters) (free : ℕ) (t : Bool) (S : Strands) (K : List Node) 
           let s2 = stands_at pre post w0 w1 w2 w3 w2 e (let o = own w2 in omega (arith, o)) in
           let s3 = stands_at pre post w0 w1 w2 w3 w3 e (let o = own w3 in omega (arith, o)) in
           ⊎_elim
-          (λ h. (from_to w0 w2 a b h.0 h.1 s0 s2 c.0, from_to w2 w0 b a h.1 h.0 s2 s0 c.1))
-          (λ h. (from_to w1 w3 a b h.0 h.1 s1 s3 c.2, from_to w3 w1 b a h.1 h.0 s3 s1 c.3))
+          (λ h. (from_to w0 w2 a b h.0 h.1 s0 s2 c.0 there, from_to w2 w0 b a h.1 h.0 s2 s0 c.1 here))
+          (λ h. (from_to w1 w3 a b h.0 h.1 s1 s3 c.2 there, from_to w3 w1 b a h.1 h.0 s3 s1 c.3 here))
           r.7
 
       -- ALONG A COMPONENT
-      pub along_component : {x y : ℕ} → Joined (strand_edges R) x y → (AllFree x → AllFree y) × (AllFree y → AllFree x)
-      along_component (along {x = x} {y = y} w) = one_edge x y w
-      along_component stay = ((λ a. a), (λ a. a))
-      along_component (back j) = let r = along_component j in (r.1, r.0)
-      along_component (on i j) = let r = along_component i in let s = along_component j in ((λ a. s.0 (r.0 a)), (λ a. r.1 (s.1 a)))
+      pub along_component : {x y : ℕ} → Joined (strand_edges R) x y → Joined (strand_edges R) start x → (AllFree x → AllFree y) × (AllFree y → AllFree x)
+      along_component (along {x = x} {y = y} w) here = one_edge x y w here
+      along_component stay here = ((λ a. a), (λ a. a))
+      along_component (back j) here = let r = along_component j (on here (back j)) in (r.1, r.0)
+      along_component (on i j) here = let r = along_component i here in let s = along_component j (on here i) in ((λ a. s.0 (r.0 a)), (λ a. r.1 (s.1 a)))
 
 -- ---- the label with the box
 module _ (p : Parameters) (free : ℕ) (t : Bool) (S : Strands) (K : List Node) (n0 g0 i0 lg0 : ℕ) (D : List Item) (f0 : List Term) (l c : ℕ) (is : IsProjector p.modulus (loop_value p) (suc c) f0)
