@@ -100,10 +100,10 @@ module _ (p : Parameters) (free g k c : ℕ) (sign : Sign) (E W M : List ℕ) (f
   abbrev pub h : ℕ → ℕ → ℕ
   h = t.h
 
-  in_at : (j : ℕ) → j < N → v 0 j ≡ slice_index (into sign) j
+  pub in_at : (j : ℕ) → j < N → v 0 j ≡ slice_index (into sign) j
   in_at j l = t.south j (let e = long_into sign in omega (arith, e, l))
 
-  out_at : (i : ℕ) → i < N → h i N ≡ slice_index (out_of sign) i
+  pub out_at : (i : ℕ) → i < N → h i N ≡ slice_index (out_of sign) i
   out_at i l = ap (λ w. h i (long w)) (sym (long_into sign)) ∙ t.east i (let e = long_out sign in omega (arith, e, l))
 
   meet : (j : ℕ) → j < N → v N j ≡ h (c - j) 0
@@ -149,7 +149,7 @@ module _ (p : Parameters) (free g k c : ℕ) (sign : Sign) (E W M : List ℕ) (f
   pub low_v : (i j : ℕ) → i ≤ N → j < N → v i j < big
   low_v i j li lj = below_bound (v i j) (some_v ++ (some_h ++ names_of R0)) (first_in some_v (some_h ++ names_of R0) (v i j) (tabled v i j (omega (arith, li, few)) (omega (arith, lj, few))))
 
-  low_h : (i j : ℕ) → i < N → j ≤ N → h i j < big
+  pub low_h : (i j : ℕ) → i < N → j ≤ N → h i j < big
   low_h i j li lj = below_bound (h i j) (some_v ++ (some_h ++ names_of R0)) (second_in some_v (some_h ++ names_of R0) (h i j) (first_in some_h (names_of R0) (h i j) (tabled h i j (omega (arith, li, few)) (omega (arith, lj, few)))))
 
   pub low_rest : (z : ℕ) → is_member ◌==◌ (names_of R0) z ≡ true → z < big

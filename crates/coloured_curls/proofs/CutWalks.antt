@@ -155,7 +155,7 @@ ones_placed test there new p (suc i) (x ∷ xs) h l =
     omega (arith, ih, t)
 
 -- ---- walks
-all_along : (es fs : List (ℕ × ℕ)) → ((x y : ℕ) → Contains es (x, y) → Contains fs (x, y)) → AllByRecursion (λ (e : ℕ × ℕ). Joined fs e.0 e.1) es
+pub all_along : (es fs : List (ℕ × ℕ)) → ((x y : ℕ) → Contains es (x, y) → Contains fs (x, y)) → AllByRecursion (λ (e : ℕ × ℕ). Joined fs e.0 e.1) es
 all_along [] fs h = tt
 all_along (e ∷ es) fs h = (along (h e.0 e.1 (0, omega arith, refl)), all_along es fs (λ x y c. h x y (suc c.0, omega (arith, c.1), c.2)))
 

@@ -22,6 +22,8 @@ pub mod BoxSteps
 pub mod LetterWalks
 pub mod RenumberedLetters
 pub mod LetterWords
+pub mod HighTwists
+pub mod CutStubs
 pub mod CurlTwists
 pub mod CutWalks
 pub mod SlidLetters
