@@ -206,7 +206,6 @@ module _ (p : Parameters) (free g k c : ℕ) (sign : Sign) (E W M : List ℕ) (f
   factor signs.Plus = ap (λ i. (curl_twist p 1 signs.Plus ^ i * a ^ (i * c)) % m) (let e : N ≡ c + 1 = omega arith in e) ∙ (curl_factor p c).positive ∙ ap (λ i. curl_twist p i signs.Plus % m) (let e : c + 1 ≡ N = omega arith in e)
   factor signs.Minus = ap (λ i. (curl_twist p 1 signs.Minus ^ i * b ^ (i * c)) % m) (let e : N ≡ c + 1 = omega arith in e) ∙ (curl_factor p c).negative ∙ ap (λ i. curl_twist p i signs.Minus % m) (let e : c + 1 ≡ N = omega arith in e)
 
-
   -- how often a name stands
   pub strands_twice : (z : ℕ) → 1 ≤ times_in (into sign) z + times_in (out_of sign) z + times_in (names_of R0) z → times_in (into sign) z + times_in (out_of sign) z + times_in (names_of R0) z ≡ 2
   strands_twice z one =

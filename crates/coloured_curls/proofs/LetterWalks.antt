@@ -88,8 +88,7 @@ module _ (p : Parameters) (free : ℕ) (t : Bool) (S : Strands) (K : List Node) 
       let long = opposite_lengths S pre post w0 w1 w2 w3 here.straight in
       let la = long.0 in let lb = long.1 in
       let a = length (at_stub S w0) in
-      let b = length (at_stub S w1) in
-      (
+      let b = length (at_stub S w1) in (
         (λ f k u v l hu hv new.
             let back : a - 2 - (a - 2 - k) ≡ k = omega (arith, l, la) in
             ap (λ j. V (with_letter p t S K n0 g0 i0 lg0 E w2 j u v)) (sym back) ∙ sym (first_to_third p free t S K n0 g0 i0 lg0 pre post w0 w1 w2 w3 here (a - 2 - k) u v new (omega (arith, l, la)))

@@ -97,7 +97,14 @@ pub(crate) fn try_coloured<R: Threads + Sync>(
             _ => false,
         };
         if is_move {
-            if let Some(values) = lines(rt, alloc, params, planar(alloc, text)?, colours, &[*step]) {
+            if let Some(values) = lines(
+                rt,
+                alloc,
+                params,
+                planar(alloc, text)?,
+                colours,
+                &[*step],
+            ) {
                 seen.accepted = seen.accepted.saturating_add(1);
                 seen.kept = seen
                     .kept

@@ -54,7 +54,14 @@ fn is_multiplied<R: Threads + Sync>(
     let crossing = count.saturating_add(1);
     let steps = [Step::Curl { edge, sign }, Step::CurlUndo { crossing }];
     let played = if count == 0 { 1 } else { 2 };
-    let values = lines(rt, alloc, params, planar(alloc, text)?, colours, &steps[..played])?;
+    let values = lines(
+        rt,
+        alloc,
+        params,
+        planar(alloc, text)?,
+        colours,
+        &steps[..played],
+    )?;
     if values.len() != played + 1 {
         return Some(false);
     }
@@ -77,7 +84,15 @@ pub(crate) fn try_curls<R: Threads + Sync>(
     };
     for edge in 0..edges {
         for sign in [Sign::Plus, Sign::Minus] {
-            if let Some(multiplied) = is_multiplied(rt, alloc, params, text, colours, edge + 1, sign) {
+            if let Some(multiplied) = is_multiplied(
+                rt,
+                alloc,
+                params,
+                text,
+                colours,
+                edge + 1,
+                sign,
+            ) {
                 seen.accepted = seen.accepted.saturating_add(1);
                 seen.multiplied = seen.multiplied.saturating_add(u32::from(multiplied));
             }
