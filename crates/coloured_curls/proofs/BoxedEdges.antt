@@ -57,7 +57,7 @@ abbrev U : List Node → List Node
 U = map without_group
 
 -- ---- a member of a list stands between two parts of it
-split_at : (xs : List ℕ) (x : ℕ) → is_member ◌==◌ xs x ≡ true → (before : List ℕ) × (after : List ℕ) × (xs ≡ before ++ x ∷ after)
+pub split_at : (xs : List ℕ) (x : ℕ) → is_member ◌==◌ xs x ≡ true → (before : List ℕ) × (after : List ℕ) × (xs ≡ before ++ x ∷ after)
 split_at [] x m = absurd (grind (arith, m))
 split_at (y ∷ ys) x m =
     ⊎_elim (λ t. ([], ys, ap (λ z. z ∷ ys) (sym (eqb-true x y t)))) (λ t. (let r = split_at ys x t in (y ∷ r.0, r.1, ap (λ zs. y ∷ zs) r.2))) (or_cases (x == y) (is_member ◌==◌ ys x) m)

@@ -1,6 +1,6 @@
 -- The cabled crossing of a curl beside any other nodes: a factor for each strand times a twist of the strands, whose letters have new names. So where the
 -- twist's letters count as their weights of going straight on, the crossing counts as mu_n to the power of the curl times the strands.
-use Rattle.std.proofs.Common.{◌≡◌, ℕ, suc, ◌+◌, ◌-◌, ◌*◌, ◌/◌, ◌%◌, ◌^◌, ◌<◌, ◌≤◌, ◌==◌, Bool, true, cond, List, ◌++◌, map, length, reverse, slice_index, sym, ap, ap₂, ◌∙◌, arith, All, ◌||◌}
+use Rattle.std.proofs.Common.{◌≡◌, ℕ, zero, suc, ◌⊎◌, inl, inr, ⊎_elim, ◌+◌, ◌-◌, ◌*◌, ◌/◌, ◌%◌, ◌^◌, ◌<◌, ◌≤◌, ◌==◌, Bool, true, cond, List, ◌++◌, map, refl, length, reverse, slice_index, sym, subst, ap, ap₂, ◌∙◌, arith, All, ◌||◌}
 use Rattle.std.specs.List.{range_with_len, zip}
 use Rattle.std.specs.Set.{is_member}
 use Rattle.std.proofs.lemmas.List.{length-reverse}
@@ -26,15 +26,30 @@ use Rattle.strand_words.specs.Boxes as words
 use Rattle.state_sums.proofs.Congruent.{mul_same_mod}
 use Rattle.word_networks.specs.GridNetworks.{grid_nodes}
 use Rattle.diagram_moves.proofs.Curling.{is_plus}
-use Rattle.cables.proofs.NameCounts.{times_of-append}
+use Rattle.cables.proofs.NameCounts.{times_of-append, times-reverse}
 use Rattle.cable_crossings.proofs.CrossingSteps.{crossing_nodes, long}
 use Rattle.cable_crossings.proofs.ToldCrossings.{IsTold, told, told_from}
 use Rattle.coloured_moves.proofs.CurledStrands.{curl_cable, curl_twist, condition}
 use Rattle.coloured_curls.specs.Boxes.{letter_nodes, names_behind, arcs_between}
+use Rattle.cable_crossings.proofs.StepPieces.{member_of_one}
+use Rattle.coloured_curls.proofs.PieceCounts.{found_in_range}
 use Rattle.coloured_curls.proofs.AbsorbedTwists.{count, twist_count}
 use Rattle.coloured_curls.proofs.BoxedCurls.{listed, reversed_list, between_lists}
 use Rattle.coloured_curls.proofs.ClosedTwists as twists
 use Rattle.coloured_curls.proofs.GridCounts.{among}
+
+some_or : (k : ℕ) → (1 ≤ k) ⊎ (k ≡ 0)
+some_or zero = inr refl
+some_or (suc k) = inl (omega arith)
+
+within : (i n : ℕ) → i < 0 + n → i < n
+within i n h = omega (arith, h)
+
+under : (c j : ℕ) → c - j < suc c
+under c j = omega arith
+
+third_stands : (a b k : ℕ) → 1 ≤ a + b + k → a ≡ 0 → b ≡ 0 → 1 ≤ k
+third_stands a b k one no_a no_b = omega (arith, one, no_a, no_b)
 
 module _ (p : Parameters) (free g k c : ℕ) (sign : Sign) (E W M : List ℕ) (few : suc c ≤ 8) (long_E : length E ≡ suc c) (long_W : length W ≡ suc c) (long_M : length M ≡ suc c)
     (R0 : List Node) (ok_X : All IsNode (curl_cable p g k sign E W M)) (ok_0 : All IsNode R0)
@@ -215,6 +230,23 @@ module _ (p : Parameters) (free g k c : ℕ) (sign : Sign) (E W M : List ℕ) (f
       let p1 = times_of-append z crossing_at R0 in
       let two = grid_twice z (omega (arith, q, e, o, p1, one)) in
       omega (arith, q, e, o, p1, two, one)
+
+  -- the twist's new names are past all of these
+  pub low_name : (z : ℕ) → 1 ≤ times_in (into sign) z + times_in (out_of sign) z + times_in (names_of R0) z → z < big
+  low_name z one =
+      ⊎_elim
+      (λ a.
+      let e : among (v 0) 0 N z ≡ times_in (into sign) z = ap (λ ns. times_in ns z) into_list in
+      let r = found_in_range (v 0) z 0 N (subst (λ n. 1 ≤ n) (sym e) a) in
+      subst (λ n. n < big) (sym r.3) (low_v 0 r.0 (omega arith) (within r.0 N r.2)))
+      (λ a. ⊎_elim
+      (λ b.
+      let e : among leaves 0 N z ≡ times_in (out_of sign) z = ap (λ ns. times_in ns z) leaves_list ∙ times-reverse z (out_of sign) in
+      let r = found_in_range leaves z 0 N (subst (λ n. 1 ≤ n) (sym e) b) in
+      subst (λ n. n < big) (sym r.3) (low_h (c - r.0) N (under c r.0) (omega arith)))
+      (λ b. low_rest z (member_of_one z (names_of R0) (third_stands (times_in (into sign) z) (times_in (out_of sign) z) (times_in (names_of R0) z) one a b)))
+      (some_or (times_in (out_of sign) z)))
+      (some_or (times_in (into sign) z))
 
   -- THE CURL, WHERE ITS TWIST'S LETTERS ARE FACTORS
   pub curl_counts : (Z : ℕ) → V ((L ++ A) ++ R0) ≡ x ^ count u * Z % m → V (X1 ++ R0) ≡ curl_twist p N sign * Z % m

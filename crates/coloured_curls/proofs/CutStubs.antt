@@ -1,17 +1,16 @@
 -- A diagram whose edge is cut, by its stubs: they have the names of a numbered diagram, each stands once, opposite ones have as many strands, and the
 -- component's walk meets no box but its own.
-use Rattle.std.proofs.Common.{◌≡◌, ◌≢◌, ℕ, zero, suc, ◌+◌, ◌-◌, ◌*◌, ◌/◌, ◌%◌, ◌<◌, ◌≤◌, ◌==◌, ◌&&◌, ◌||◌, ◌⊎◌, inl, inr, nat_le, Bool, true, false, cond, List, [], ◌∷◌, ◌++◌, map, length, reverse, slice_index, refl, sym, ap, ap₂, ◌∙◌, arith, ⊎_elim, subst, Contains}
+use Rattle.std.proofs.Common.{◌≡◌, ◌≢◌, ℕ, zero, suc, ◌+◌, ◌*◌, ◌%◌, ◌≤◌, ◌==◌, ◌||◌, ◌⊎◌, inl, inr, Bool, true, false, cond, List, [], ◌∷◌, ◌++◌, length, reverse, refl, sym, ap, ◌∙◌, arith, ⊎_elim, Contains}
 use Rattle.std.specs.List.{AllByRecursion}
 use Rattle.std.specs.Set.{is_member}
-use Rattle.std.proofs.lemmas.Bool.{cases_Bool, cases_eq, eqb-true, or_cases, or_left, or_right}
+use Rattle.std.proofs.lemmas.Bool.{cases_eq, or_left, or_right}
 use Rattle.std.proofs.lemmas.Bool.Decides.{nat_tests}
 use Rattle.graph_parts.proofs.Counting.{is_member-map}
 use Rattle.graph_parts.proofs.Distinct.{is_member-append}
-use Rattle.graph_parts.proofs.LeastLabels.{AreLeast-labels, least_label-Joined}
-use Rattle.graph_parts.specs.LeastNames.{least_label}
+use Rattle.graph_parts.proofs.LeastLabels.{least_label-Joined}
 use Rattle.graph_parts.specs.Walks.{Joined, along, stay, back, on}
 use Rattle.list_lemmas.specs.Times.{times_in}
-use Rattle.list_lemmas.proofs.Times.{member_of_times, times_none, times_of_member, times_in-append, times_in-cons}
+use Rattle.list_lemmas.proofs.Times.{member_of_times, times_of_member, times_in-append, times_in-cons}
 use Rattle.root_quantum.specs.Parameters.{Parameters}
 use Rattle.pd_reader.specs.declared.item.Item.{Item}
 use Rattle.pd_reader.specs.declared.item.Item.TheVariants as item
@@ -33,7 +32,7 @@ use Rattle.move_results.proofs.CutComponents.{each_walk}
 use Rattle.move_results.proofs.DiagramResults.{as_paired}
 use Rattle.move_results.proofs.LeastLabelLists.{joined_through, least_is}
 use Rattle.move_results.proofs.PairedAgain.{loop_labels-append}
-use Rattle.coloured_moves.proofs.ExchangedStubs.{both_stubs, crossing_labels-stubbed, sizes-stubbed, stubs_halved, stubs_once}
+use Rattle.coloured_moves.proofs.ExchangedStubs.{both_stubs, crossing_labels-stubbed, stubs_halved, stubs_once}
 use Rattle.coloured_moves.proofs.LabelColours.{joined_colour, label_in, long_stub}
 use Rattle.coloured_moves.proofs.PushedCables.{unboxed_second}
 use Rattle.coloured_moves.proofs.StubItems.{half, stub, stubs, stub_half, stubbed, seen_after, at_stub, at_stub_is}
@@ -42,8 +41,15 @@ use Rattle.coloured_curls.proofs.CutWalks.{all_along}
 use Rattle.coloured_curls.proofs.EdgeLetters.{AreNumbered}
 use Rattle.coloured_curls.proofs.LetterSteps.{labels_times}
 
+-- ---- entries of a list
+pub own_time : (l : ℕ) (ls : List ℕ) → 1 ≤ times_in (l ∷ ls) l
+own_time l ls = let c = times_in-cons l ls l in let a : at l l ≡ 1 = grind (arith, nat_tests) in omega (arith, c, a)
+
+pub later_time : (l : ℕ) (ls : List ℕ) (k : ℕ) → 1 ≤ times_in ls k → 1 ≤ times_in (l ∷ ls) k
+later_time l ls k one = let c = times_in-cons l ls k in omega (arith, c, one)
+
 -- ---- stubs
-loop_labels-stubbed : (seen : List ℕ) (items : List Item) → loop_labels (stubbed seen items) ≡ loop_labels items
+pub loop_labels-stubbed : (seen : List ℕ) (items : List Item) → loop_labels (stubbed seen items) ≡ loop_labels items
 loop_labels-stubbed seen [] = refl
 loop_labels-stubbed seen (item.X slots ∷ rest) = loop_labels-stubbed (seen_after seen slots) rest
 loop_labels-stubbed seen (item.Loop l ∷ rest) = ap (λ ls. l ∷ ls) (loop_labels-stubbed seen rest)

@@ -36,7 +36,7 @@ pub record AreNumbered (S : Strands) (D : List Item) : Type 0 where
 abbrev pub IsHigh : ℕ → Type 0
 IsHigh y = (16 * 2000001 ≤ y) × (y < 2 ^ 25)
 
-kept_all : (n : ℕ) (D : List Item) → kept_stubs [] n D ≡ crossing_labels D
+pub kept_all : (n : ℕ) (D : List Item) → kept_stubs [] n D ≡ crossing_labels D
 kept_all n [] = refl
 kept_all n (item.X ws ∷ rest) = ap (λ ns. ws ++ ns) (kept_all (n + 1) rest)
 kept_all n (item.Loop l ∷ rest) = kept_all n rest

@@ -7,7 +7,7 @@ use Rattle.std.proofs.lemmas.Bool.{cases_eq}
 use Rattle.std.proofs.lemmas.Bool.Decides.{nat_tests}
 use Rattle.std.proofs.lemmas.List.{get_or-map, get_or-reverse, length-reverse}
 use Rattle.std.proofs.lemmas.List.FromFn.{length-map-range_with_len}
-use Rattle.std.proofs.lemmas.List.Elements.{All-append, All-cons, All-head, All-nil, All-tail}
+use Rattle.std.proofs.lemmas.List.Elements.{All-append, All-cons, All-nil, All-tail}
 use Rattle.std.proofs.lemmas.Nat.{mul-mod_second}
 use Rattle.list_lemmas.specs.Times.{times_in}
 use Rattle.list_lemmas.proofs.Times.{times_of_member}
@@ -27,7 +27,7 @@ use Rattle.diagram_moves.specs.Rewriting.{crossing_labels}
 use Rattle.diagram_moves.proofs.Paired.{loop_labels}
 use Rattle.cable_crossings.proofs.BundleTurns.{runs_exchanged}
 use Rattle.cable_crossings.proofs.ManyArcs.{arcs_ok}
-use Rattle.cable_crossings.proofs.StepPieces.{All-first, All-second}
+use Rattle.cable_crossings.proofs.StepPieces.{All-first}
 use Rattle.coloured_moves.proofs.StubItems.{half, at_stub, stub_nodes}
 use Rattle.coloured_curls.specs.Boxes.{behind, letter_nodes, names_behind}
 use Rattle.coloured_curls.proofs.AbsorbedTwists.{count, once}
@@ -35,10 +35,9 @@ use Rattle.coloured_curls.proofs.BoxedCurls.{listed}
 use Rattle.coloured_curls.proofs.EdgeLetters as letters
 use Rattle.coloured_curls.proofs.EdgeLetters.{AreNumbered, IsHigh}
 use Rattle.coloured_curls.proofs.EdgeSteps.{changed_ok, put_first}
-use Rattle.coloured_curls.proofs.GridCounts.{among}
 use Rattle.coloured_curls.proofs.LetterCounts.{given, given_low, given_most, letter_counts}
 use Rattle.coloured_curls.proofs.LetterNets.{AreAmong}
-use Rattle.coloured_curls.proofs.LetterSteps.{AreNew, AreStubs, weight, other_weight, with_letter}
+use Rattle.coloured_curls.proofs.LetterSteps.{AreNew, AreStubs, weight, other_weight}
 use Rattle.coloured_curls.proofs.LetterWalks.{IsFree}
 use Rattle.coloured_curls.proofs.RenumberedLetters.{letters_ok, letters_renamed, behind_renamed, map_ranged, arcs_renamed, arcs_times, given_range}
 use Rattle.coloured_curls.proofs.StubLetters.{changed, changed_other, put, put_here, put_other, loop_put}
@@ -50,7 +49,7 @@ abbrev pub AreLetters : Parameters → Bool → ℕ → List Letter → Type 0
 AreLetters p t n [] = Unit {0}
 AreLetters p t n (l ∷ u) = (l.at + 1 < n) × (l.straight ≡ weight p t) × (l.hook ≡ other_weight p t) × AreLetters p t n u
 
-are_among : (p : Parameters) (t : Bool) (n : ℕ) (u : List Letter) → AreLetters p t n u → AreAmong n u
+pub are_among : (p : Parameters) (t : Bool) (n : ℕ) (u : List Letter) → AreLetters p t n u → AreAmong n u
 are_among p t n [] a = tt
 are_among p t n (l ∷ u) a = (a.0, are_among p t n u a.3)
 

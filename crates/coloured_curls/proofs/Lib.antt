@@ -25,8 +25,11 @@ pub mod LetterWords
 pub mod HighTwists
 pub mod CutStubs
 pub mod CurlTwists
+pub mod EdgeComponents
+pub mod EdgeCurls
 pub mod CutWalks
 pub mod SlidLetters
 pub mod CurledBoxes
+pub mod AllCurls
 mod Examples
 pub mod CurlLaws

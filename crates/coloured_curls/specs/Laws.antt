@@ -85,3 +85,18 @@ BoxedLoopLaw =
     (p : Parameters) (items : List Item) (e : ℕ) (sign : Sign) (moved : Moved) (colours : List ℕ) → IsDiagram items → fresh items + 3 ≤ 2000000 → HasColours items colours → AllByRecursion (HasProjector p) colours →
     2 ≤ colour_of items colours e → is_member ◌==◌ (crossing_labels items) e ≡ false → move items (Curl e sign) ≡ Ok moved →
     coloured p moved.items colours ≡ numbers.twist p (colour_of items colours e) moved.factor.curl * coloured p items colours % p.modulus
+
+-- Curl on an edge without a box, of a component of colour n from 2 on, multiplies the coloured value by mu_n to the power of the curl, where each colour
+-- has its projector; the other components have any colours.
+abbrev pub BoxlessEdgeLaw : Type 0
+BoxlessEdgeLaw =
+    (p : Parameters) (items : List Item) (e : ℕ) (sign : Sign) (moved : Moved) (colours : List ℕ) → IsDiagram items → fresh items + 3 ≤ 2000000 → HasColours items colours → AllByRecursion (HasProjector p) colours →
+    2 ≤ colour_of items colours e → is_boxed items colours e ≡ false → is_member ◌==◌ (crossing_labels items) e ≡ true → move items (Curl e sign) ≡ Ok moved →
+    coloured p moved.items colours ≡ numbers.twist p (colour_of items colours e) moved.factor.curl * coloured p items colours % p.modulus
+
+-- Curl on a component of colour n multiplies the coloured value by mu_n to the power of the curl, on any edge or Loop and for all colours, where each
+-- colour has its projector.
+abbrev pub CurlLaw : Type 0
+CurlLaw =
+    (p : Parameters) (items : List Item) (e : ℕ) (sign : Sign) (moved : Moved) (colours : List ℕ) → IsDiagram items → fresh items + 3 ≤ 2000000 → HasColours items colours → AllByRecursion (HasProjector p) colours →
+    move items (Curl e sign) ≡ Ok moved → coloured p moved.items colours ≡ numbers.twist p (colour_of items colours e) moved.factor.curl * coloured p items colours % p.modulus

@@ -1,6 +1,6 @@
 //! The laws of curls of cables: each function has an empty body, and its contract is the law. They are stated in `specs/Laws.antt`.
 
-ghost use Rattle.coloured_curls.specs.Laws.{BoxedCrossingLaw, ClosedCrossingLaw, CurlBesideBoxLaw, BoxedEdgeLaw, BoxedLoopLaw};
+ghost use Rattle.coloured_curls.specs.Laws.{BoxedCrossingLaw, ClosedCrossingLaw, CurlBesideBoxLaw, BoxedEdgeLaw, BoxedLoopLaw, BoxlessEdgeLaw, CurlLaw};
 
 /// A crossing of two neighbouring strands beside a projector's box is a factor, its weight of going straight on; the box then has the
 /// names behind the crossing (Lickorish, ch. 13).
@@ -28,4 +28,15 @@ pub fn curl_beside_box()
 /// `Curl` on a Loop of colour n from 2 to 8 multiplies the coloured value by `mu_n`, or by its inverse for the sign `-`.
 pub fn boxed_loop()
     ensures { BoxedLoopLaw }
+{}
+
+/// `Curl` on an edge without a box, of a component of colour n from 2 to 8, multiplies the coloured value by `mu_n`, or by its inverse for the sign `-`: the
+/// crossings of its twist walk along the component to the box.
+pub fn boxless_edge()
+    ensures { BoxlessEdgeLaw }
+{}
+
+/// `Curl` on any edge or Loop of a component of colour n, from 0 to 8, multiplies the coloured value by `mu_n`, or by its inverse for the sign `-`.
+pub fn curl()
+    ensures { CurlLaw }
 {}

@@ -6,4 +6,6 @@
 
 mod laws;
 
-pub use laws::{boxed_crossing, boxed_edge, boxed_loop, closed_crossing, curl_beside_box};
+pub use laws::{
+    boxed_crossing, boxed_edge, boxed_loop, boxless_edge, closed_crossing, curl, curl_beside_box,
+};

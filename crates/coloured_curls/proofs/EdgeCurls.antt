@@ -1,0 +1,583 @@
+-- Curl on an edge without a box, of a component of a colour from 2 on: the crossings of its twist walk along the component to the box, so the curl
+-- counts as its factor.
+use Rattle.std.proofs.Common.{◌≡◌, ℕ, zero, suc, ◌+◌, ◌-◌, ◌*◌, ◌%◌, ◌^◌, ◌<◌, ◌≤◌, ◌==◌, ◌&&◌, inl, inr, Bool, true, false, cond, List, [], ◌∷◌, ◌++◌, map, length, reverse, slice_index, refl, sym, ap, ap₂, ◌∙◌, arith, ⊎_elim, All, subst, append_assoc}
+use Rattle.std.specs.List.{AllByRecursion, range_with_len, zip}
+use Rattle.std.specs.List.Sorted.{IsPermutation}
+use Rattle.std.specs.Set.{is_member}
+use Rattle.std.proofs.lemmas.Bool.{cases_Bool}
+use Rattle.std.proofs.lemmas.List.{get_or-reverse, length-reverse, map-append, reverse-reverse}
+use Rattle.std.proofs.lemmas.List.Elements.{All-append, All-cons, All-head, All-tail}
+use Rattle.std.proofs.lemmas.List.Sorted.{All-permutation, IsPermutation-append_right}
+use Rattle.graph_parts.specs.Walks.{Joined, stay, back}
+use Rattle.list_lemmas.specs.Times.{times_in}
+use Rattle.list_lemmas.proofs.Times.{member_of_times, times_in-append}
+use Rattle.state_sums.specs.Networks.{Node, Term, IsNode, names_of}
+use Rattle.state_sums.specs.StateSums.{value}
+use Rattle.state_sums.proofs.NetworkLaws.{any_order}
+use Rattle.root_quantum.specs.Parameters.{Parameters}
+use Rattle.root_quantum.specs.QuantumNumbers.{inverse_root, loop_value}
+use Rattle.strand_algebra.specs.Projectors.{IsProjector}
+use Rattle.strand_words.specs.Boxes as words
+use Rattle.strand_words.specs.Grids.{row}
+use Rattle.strand_words.specs.Words.{Letter}
+use Rattle.piece_laws.specs.Arcs.{arcs_of}
+use Rattle.pd_reader.specs.declared.item.Item.{Item}
+use Rattle.pd_reader.specs.declared.item.Item.TheVariants as item
+use Rattle.pd_reader.specs.Items.{HasItsSlots}
+use Rattle.pd_reader.specs.Diagrams.{IsDiagram}
+use Rattle.planar_check.specs.Components.{component_least, strand_edges}
+use Rattle.planar_check.specs.declared.sign.Sign.{Sign}
+use Rattle.planar_check.specs.declared.sign.Sign.TheVariants as signs
+use Rattle.cables.specs.CableNodes.{box_node}
+use Rattle.cables.specs.Cables.{Standing, start, count_placed, loop_nodes, as_net}
+use Rattle.cables.specs.Nets.{HasProjector, projector_of}
+use Rattle.cables.specs.Strands.{Strands, first_names, second_names}
+use Rattle.cables.proofs.NameCounts.{times_of-append, times-reverse}
+use Rattle.cables.proofs.NumberedStrands.{first_length}
+use Rattle.cables.proofs.ProjectorBoxes.{projector_boxes}
+use Rattle.coloured_values.specs.Coloured.{colour_of, is_boxed, coloured}
+use Rattle.coloured_values.specs.Laws.{HasColours}
+use Rattle.diagram_moves.specs.Laws.{IsPairedDiagram}
+use Rattle.diagram_moves.specs.Moves.{curl_slots}
+use Rattle.diagram_moves.specs.Rewriting.{crossing_labels, fresh}
+use Rattle.diagram_moves.proofs.Curling.{is_plus}
+use Rattle.diagram_moves.proofs.Paired.{loop_labels}
+use Rattle.cable_crossings.proofs.BundleTurns.{runs_exchanged}
+use Rattle.cable_crossings.proofs.CabledBigon.{names_of-ungrouped}
+use Rattle.cable_crossings.proofs.ManyArcs.{arcs_ok}
+use Rattle.cable_crossings.proofs.StepPieces.{All-first, All-second}
+use Rattle.coloured_moves.proofs.ColouredSlides.{boxed_projector}
+use Rattle.coloured_moves.proofs.CurledCables as cables
+use Rattle.coloured_moves.proofs.CurledStrands.{curl_twist}
+use Rattle.coloured_moves.proofs.ExchangedStubs.{sizes-stubbed}
+use Rattle.coloured_moves.proofs.StubItems.{half, boxes_of, first_boxes, first_labels, first_labels_times, at_stub, split, stub_nodes, stubbed, ungrouped_boxes}
+use Rattle.coloured_moves.proofs.StubNames.{stub_sum, stub_sum_none, loop_sum, stub_nodes_times}
+use Rattle.coloured_moves.proofs.TurnedBoxes.{boxes_ok, names_permuted, ungrouped_value}
+use Rattle.coloured_curls.specs.Boxes.{letter_nodes, names_behind}
+use Rattle.coloured_curls.proofs.AbsorbedTwists.{count, twist_count}
+use Rattle.coloured_curls.proofs.BoxedCurls.{curl_pairs}
+use Rattle.coloured_curls.proofs.BoxedEdges.{split_at}
+use Rattle.coloured_curls.proofs.CurlTwists as curls
+use Rattle.coloured_curls.proofs.CutStubs as stubs
+use Rattle.coloured_curls.proofs.CutStubs.{joined_in}
+use Rattle.coloured_curls.proofs.EdgeLetters.{AreNumbered, IsHigh, kept_all}
+use Rattle.coloured_curls.proofs.GridCounts.{among}
+use Rattle.coloured_curls.proofs.HighTwists.{renumbered}
+use Rattle.coloured_curls.proofs.LetterNets.{AreAmong}
+use Rattle.coloured_curls.proofs.LetterSteps.{AreStubs, weight}
+use Rattle.coloured_curls.proofs.LetterWalks.{AllFree, IsFree, along_component, boxed_label}
+use Rattle.coloured_curls.proofs.LetterWords.{AreLetters, are_among, word_counts}
+use Rattle.coloured_curls.proofs.RenumberedLetters.{arcs_times, letters_ok}
+use Rattle.coloured_curls.proofs.EdgeComponents as parts
+
+-- ---- a twist's letters
+letters-append : (p : Parameters) (t : Bool) (n : ℕ) (u w : List Letter) → AreLetters p t n u → AreLetters p t n w → AreLetters p t n (u ++ w)
+letters-append p t n [] w a b = b
+letters-append p t n (l ∷ u) w a b = (a.0, a.1, a.2, letters-append p t n u w a.3 b)
+
+row_letters : (p : Parameters) (t : Bool) (n i k : ℕ) → i + k < n → AreLetters p t n (row p.root (inverse_root p) t i k)
+row_letters p t n i zero l = tt
+row_letters p t n i (suc k) l = (omega (arith, l), refl, refl, row_letters p t n (i + 1) k (omega (arith, l)))
+
+twist_letters : (p : Parameters) (t : Bool) (n i k turns : ℕ) → i + k < n → AreLetters p t n (words.twist p.root (inverse_root p) t i k turns)
+twist_letters p t n i k zero l = tt
+twist_letters p t n i k (suc turns) l = letters-append p t n (row p.root (inverse_root p) t i k) (words.twist p.root (inverse_root p) t i k turns) (row_letters p t n i k l) (twist_letters p t n i k turns l)
+
+count_length : (u : List Letter) → length u ≡ count u
+count_length [] = refl
+count_length (l ∷ u) = let ih = count_length u in omega (arith, ih)
+
+few_letters : (c : ℕ) → suc c ≤ 8 → suc c * c ≤ 56
+few_letters zero l = omega arith
+few_letters (suc zero) l = omega arith
+few_letters (suc (suc zero)) l = omega arith
+few_letters (suc (suc (suc zero))) l = omega arith
+few_letters (suc (suc (suc (suc zero)))) l = omega arith
+few_letters (suc (suc (suc (suc (suc zero))))) l = omega arith
+few_letters (suc (suc (suc (suc (suc (suc zero)))))) l = omega arith
+few_letters (suc (suc (suc (suc (suc (suc (suc zero))))))) l = omega arith
+few_letters (suc (suc (suc (suc (suc (suc (suc (suc c)))))))) l = absurd (omega (arith, l))
+
+-- ---- names of boxes and loops
+boxes_none : (S : Strands) (ls : List ℕ) (z : ℕ) → ((l : ℕ) → 1 ≤ times_in ls l → (times_in (S.first l) z ≡ 0) × (times_in (S.second l) z ≡ 0)) → times_in (names_of (boxes_of S ls)) z ≡ 0
+boxes_none S [] z h = refl
+boxes_none S (l ∷ ls) z h =
+    let o = h l (stubs.own_time l ls) in
+    let o0 = o.0 in
+    let o1 = o.1 in
+    let a = times_in-append (S.first l ++ S.second l) (names_of (boxes_of S ls)) z in
+    let b = times_in-append (S.first l) (S.second l) z in
+    let ih = boxes_none S ls z (λ k one. h k (stubs.later_time l ls k one)) in
+    omega (arith, a, b, ih, o0, o1)
+
+loop_none : (S : Strands) (xs : List ℕ) (z : ℕ) → times_in xs z ≡ 0 → times_in (names_of (loop_nodes S 0 xs)) z ≡ 0
+loop_none S [] z h = refl
+loop_none S (x ∷ []) z h = refl
+loop_none S (x ∷ y ∷ xs) z h =
+    let ns = x ∷ y ∷ xs in
+    let a = times_in-append (ns ++ reverse ns) [] z in
+    let b = times_in-append ns (reverse ns) z in
+    let r = times-reverse z ns in
+    omega (arith, a, b, r, h)
+
+loops_none : (S : Strands) (ls : List ℕ) (z : ℕ) → ((l : ℕ) → 1 ≤ times_in ls l → times_in (S.first l) z ≡ 0) → loop_sum S ls z ≡ 0
+loops_none S [] z h = refl
+loops_none S (l ∷ ls) z h =
+    let a = loop_none S (S.first l) z (h l (stubs.own_time l ls)) in
+    let ih = loops_none S ls z (λ k one. h k (stubs.later_time l ls k one)) in
+    omega (arith, a, ih)
+
+-- ---- diagrams
+module _ (p : Parameters) (items : List Item) (pd : IsPairedDiagram items) (e : ℕ) (has_e : is_member ◌==◌ (crossing_labels items) e ≡ true) (sign : Sign) (colours : List ℕ) (room : fresh items + 3 ≤ 2000000)
+    (after_is : IsDiagram (cables.after p items pd e has_e sign colours room)) (has : HasColours (cables.after p items pd e has_e sign colours room) colours) (projectors : AllByRecursion (HasProjector p) colours)
+    (tall : 2 ≤ colour_of items colours e) (unboxed : is_boxed items colours e ≡ false) where
+  abbrev R : List Item
+  R = cables.R p items pd e has_e sign colours room
+
+  abbrev after : List Item
+  after = cables.after p items pd e has_e sign colours room
+
+  abbrev new : List Item
+  new = item.X (curl_slots e (fresh items + 1) (fresh items) sign) ∷ []
+
+  abbrev S : Strands
+  S = cables.S p items pd e has_e sign colours room after_is has
+
+  abbrev c : ℕ
+  c = colour_of items colours e
+
+  abbrev CR : List Node
+  CR = cables.CR p items pd e has_e sign colours room after_is has
+
+  abbrev X1 : List Node
+  X1 = cables.X1 p items pd e has_e sign colours room after_is has
+
+  abbrev free : ℕ
+  free = cables.free p items pd e has_e sign colours room after_is has
+
+  abbrev v : ℕ
+  v = cables.v p items pd e has_e sign colours room
+
+  abbrev M : List ℕ
+  M = cables.M p items pd e has_e sign colours room after_is has
+
+  abbrev V : List Node → ℕ
+  V ns = value p.modulus (loop_value p) record { nodes = ns; free_loops = free }
+
+  abbrev l0 : ℕ
+  l0 = component_least items e
+
+  abbrev colour : ℕ → ℕ
+  colour l = colour_of after colours l
+
+  abbrev boxed : ℕ → Bool
+  boxed l = is_boxed after colours l
+
+  abbrev es : List (ℕ × ℕ)
+  es = strand_edges R
+
+  sizes_R : AllByRecursion HasItsSlots R
+  sizes_R = parts.sizes_R p items pd e has_e sign colours room after_is has projectors tall unboxed
+
+  numbered : AreNumbered S (stubbed [] R)
+  numbered = stubs.numbered p R new after_is sizes_R colours has
+
+  -- ---- the nodes of the cut diagram: the component's box, the other boxes, and the crossings by their stubs
+  abbrev D : List Item
+  D = stubbed [] R
+
+  abbrev lg : ℕ
+  lg = count_placed (as_net after) + 1
+
+  abbrev N : List Node
+  N = stub_nodes p S [] 1 1 0 lg D
+
+  abbrev ls : List ℕ
+  ls = first_labels S.boxed [] R
+
+  l0_first : is_member ◌==◌ ls l0 ≡ true
+  l0_first =
+      let t = first_labels_times S.boxed [] R l0 in
+      member_of_times l0 ls (plain (is_member ◌==◌ (crossing_labels R) l0) (S.boxed l0) (times_in ls l0) (parts.l0_R p items pd e has_e sign colours room after_is has projectors tall unboxed) (parts.boxed_l0 p items pd e has_e sign colours room after_is has projectors tall unboxed) t)
+    where
+      plain : (s t : Bool) (k : ℕ) → s ≡ true → t ≡ true → k ≡ cond (s && (t && true)) 1 0 → 1 ≤ k
+      plain s t k a b h = grind (arith, a, b, h)
+
+  sides : (before : List ℕ) × (behind : List ℕ) × (ls ≡ before ++ l0 ∷ behind)
+  sides = split_at ls l0 l0_first
+
+  abbrev f0 : List Term
+  f0 = S.box (length (S.first l0))
+
+  abbrev box : Node
+  box = box_node 0 f0 (at_stub S (2 * l0)) (at_stub S (2 * l0 + 1))
+
+  abbrev B1 : List Node
+  B1 = boxes_of S sides.0
+
+  abbrev B2 : List Node
+  B2 = boxes_of S sides.1
+
+  abbrev OB : List Node
+  OB = B1 ++ B2
+
+  box_is : box_node 0 f0 (S.first l0) (S.second l0) ≡ box
+  box_is = ap₂ (box_node 0 f0) (sym (stubs.at_low p R new after_is sizes_R colours has l0)) (sym (stubs.at_high p R new after_is sizes_R colours has l0))
+
+  all_boxes : boxes_of S ls ≡ B1 ++ (box ∷ B2)
+  all_boxes =
+      ap (boxes_of S) sides.2 ∙ map-append (λ l. box_node 0 (S.box (length (S.first l))) (S.first l) (S.second l)) sides.0 (l0 ∷ sides.1) ∙ ap (λ node. B1 ++ (node ∷ B2)) box_is
+
+  abbrev st0 : Standing
+  st0 = start (as_net after)
+
+  abbrev FB : List Node
+  FB = first_boxes S st0 R
+
+  perm : IsPermutation CR (FB ++ N)
+  perm = split p S R st0 1 sizes_R
+
+  ok_CR : All IsNode CR
+  ok_CR = cables.ok_R p items pd e has_e sign colours room after_is has
+
+  ok_FN : All IsNode (FB ++ N)
+  ok_FN = All-permutation IsNode CR (FB ++ N) perm ok_CR
+
+  ok_N : All IsNode N
+  ok_N = All-second IsNode FB N ok_FN
+
+  ok_boxes : All IsNode (B1 ++ (box ∷ B2))
+  ok_boxes = subst (All IsNode) all_boxes (boxes_ok p.modulus (loop_value p) S (projector_boxes p) (stubs.even p R new after_is sizes_R colours has) ls)
+
+  ok_B1 : All IsNode B1
+  ok_B1 = All-first IsNode B1 (box ∷ B2) ok_boxes
+
+  ok_B2 : All IsNode (box ∷ B2)
+  ok_B2 = All-second IsNode B1 (box ∷ B2) ok_boxes
+
+  ok_box : All IsNode (box ∷ [])
+  ok_box = All-first IsNode (box ∷ []) B2 ok_B2
+
+  -- the boxes come to the front
+  front : (ns : List Node) → All IsNode ns → V (ns ++ CR) ≡ V ((box ∷ (OB ++ ns)) ++ N)
+  front ns ok =
+      let Z = ns ++ N in
+      let okZ : All IsNode Z = All-append IsNode ns N ok ok_N in
+      let okB2 : All IsNode B2 = All-tail IsNode box B2 ok_B2 in
+      sym (any_order p.modulus (loop_value p) free (ns ++ CR) (ns ++ (FB ++ N)) (All-append IsNode ns CR ok ok_CR) (IsPermutation-append_right ns CR (FB ++ N) perm))
+      ∙ runs_exchanged p.modulus (loop_value p) free ns FB N ok (All-first IsNode FB N ok_FN) ok_N
+      ∙ ungrouped_value p.modulus (loop_value p) free S st0 R Z sizes_R
+      ∙ ap (λ bs. V (bs ++ Z)) all_boxes
+      ∙ ap V (append_assoc B1 (box ∷ B2) Z)
+      ∙ runs_exchanged p.modulus (loop_value p) free B1 (box ∷ []) (B2 ++ Z) ok_B1 ok_box (All-append IsNode B2 Z okB2 okZ)
+      ∙ ap (λ xs. V (box ∷ xs)) (sym (append_assoc B1 B2 Z) ∙ sym (append_assoc OB ns N))
+
+  CR_count : (z : ℕ) → times_in (names_of CR) z ≡ times_in (names_of (box ∷ OB)) z + times_in (names_of N) z
+  CR_count z =
+      let a = names_permuted z CR (FB ++ N) perm in
+      let b = times_of-append z FB N in
+      let d : names_of (boxes_of S ls) ≡ names_of FB = ap names_of (sym (ungrouped_boxes S st0 R sizes_R)) ∙ names_of-ungrouped FB in
+      let f = ap (λ ns. times_in ns z) d in
+      let g = ap (λ bs. times_in (names_of bs) z) all_boxes in
+      let h = times_of-append z B1 (box ∷ B2) in
+      let i = times_of-append z (box ∷ []) B2 in
+      let j = times_of-append z (box ∷ []) OB in
+      let k = times_of-append z B1 B2 in
+      omega (arith, a, b, f, g, h, i, j, k)
+
+  -- ---- names past those of all labels do not stand there
+  low_label : (l : ℕ) → is_member ◌==◌ (crossing_labels R) l ≡ true → l ≤ 2000000
+  low_label l m = (let s = numbered.small (2 * l) (stubs.first_there p R new after_is sizes_R colours has l m) in let h : half (2 * l) ≡ l = omega arith in omega (arith, s, h))
+
+  stub_clear : (w z : ℕ) → half w ≤ 2000000 → IsHigh z → times_in (at_stub S w) z ≡ 0
+  stub_clear w z l h = zero_of (times_in (at_stub S w) z) (λ one. (let e = numbered.label w z one in let a = h.0 in omega (arith, e, a, l)))
+    where
+      zero_of : (k : ℕ) → (1 ≤ k → ⊥) → k ≡ 0
+      zero_of zero f = refl
+      zero_of (suc k) f = absurd (f (omega arith))
+
+  CR_clear : (z : ℕ) → IsHigh z → times_in (names_of CR) z ≡ 0
+  CR_clear z h =
+      let by_label : (l : ℕ) → l ≤ 2000000 → (times_in (S.first l) z ≡ 0) × (times_in (S.second l) z ≡ 0) =
+      λ l low. (
+        ap (λ xs. times_in xs z) (sym (stubs.at_low p R new after_is sizes_R colours has l)) ∙ stub_clear (2 * l) z (let q : half (2 * l) ≡ l = omega arith in omega (arith, q, low)) h,
+        ap (λ xs. times_in xs z) (sym (stubs.at_high p R new after_is sizes_R colours has l)) ∙ stub_clear (2 * l + 1) z (let q : half (2 * l + 1) ≡ l = omega arith in omega (arith, q, low)) h,
+      ) in
+      let a = names_permuted z CR (FB ++ N) perm in
+      let b = times_of-append z FB N in
+      let d : names_of (boxes_of S ls) ≡ names_of FB = ap names_of (sym (ungrouped_boxes S st0 R sizes_R)) ∙ names_of-ungrouped FB in
+      let f = ap (λ ns. times_in ns z) d in
+      let g = boxes_none S ls z (λ l one. by_label l (low_label l (at_crossing l one))) in
+      let n = stub_nodes_times p S [] z h.1 (stubs.few_stubs p R new after_is sizes_R colours has) 1 1 0 lg D (stubs.straight p R new after_is sizes_R colours has) in
+      let s = ap (λ ws. stub_sum S ws z) (kept_all 1 D) in
+      let t = stub_sum_none S (crossing_labels D) z (λ w one. stub_clear w z (numbered.small w one) h) in
+      let u = loops_none S (loop_labels D) z (λ l one. (by_label l (numbered.small_loops l (member_of_times l (loop_labels D) one))).0) in
+      omega (arith, a, b, f, g, n, s, t, u)
+    where
+      at_crossing : (l : ℕ) → 1 ≤ times_in ls l → is_member ◌==◌ (crossing_labels R) l ≡ true
+      at_crossing l one = let t = first_labels_times S.boxed [] R l in plain (is_member ◌==◌ (crossing_labels R) l) (S.boxed l) (times_in ls l) t one
+        where
+          plain : (s t : Bool) (k : ℕ) → k ≡ cond (s && (t && true)) 1 0 → 1 ≤ k → s ≡ true
+          plain s t k a b = grind (arith, a, b)
+
+  -- ---- the end of the edge at which the twist begins, and the other
+  abbrev side : Sign → ℕ
+  side signs.Plus = e
+  side signs.Minus = v
+
+  abbrev other : Sign → ℕ
+  other signs.Plus = v
+  other signs.Minus = e
+
+  side_free : (sg : Sign) → boxed (side sg) ≡ false
+  side_free signs.Plus = parts.free_e p items pd e has_e sign colours room after_is has projectors tall unboxed
+  side_free signs.Minus = parts.free_v p items pd e has_e sign colours room after_is has projectors tall unboxed
+
+  side_once : (sg : Sign) → times_in (crossing_labels R) (side sg) ≡ 1
+  side_once signs.Plus = parts.once_e p items pd e has_e sign colours room after_is has projectors tall unboxed
+  side_once signs.Minus = parts.once_v p items pd e has_e sign colours room after_is has projectors tall unboxed
+
+  side_in : (sg : Sign) → is_member ◌==◌ (crossing_labels R) (side sg) ≡ true
+  side_in signs.Plus = parts.e_R p items pd e has_e sign colours room after_is has projectors tall unboxed
+  side_in signs.Minus = parts.v_R p items pd e has_e sign colours room after_is has projectors tall unboxed
+
+  other_in : (sg : Sign) → is_member ◌==◌ (crossing_labels R) (other sg) ≡ true
+  other_in signs.Plus = parts.v_R p items pd e has_e sign colours room after_is has projectors tall unboxed
+  other_in signs.Minus = parts.e_R p items pd e has_e sign colours room after_is has projectors tall unboxed
+
+  side_joined : (sg : Sign) → Joined es (side sg) l0
+  side_joined signs.Plus = parts.from_e p items pd e has_e sign colours room after_is has projectors tall unboxed
+  side_joined signs.Minus = parts.from_v p items pd e has_e sign colours room after_is has projectors tall unboxed
+
+  module _ (k : ℕ) (tall_k : c ≡ suc k) where
+    few_k : suc k ≤ 8
+    few_k = let t = cables.few_c p items pd e has_e sign colours room after_is has in omega (arith, t, tall_k)
+
+    abbrev g : ℕ
+    g = (cables.st2 p items pd e has_e sign colours room after_is has).group
+
+    abbrev i : ℕ
+    i = (cables.st2 p items pd e has_e sign colours room after_is has).index
+
+    abbrev E : List ℕ
+    E = S.second e
+
+    abbrev W : List ℕ
+    W = S.second v
+
+    long_E : length E ≡ suc k
+    long_E = cables.long_e p items pd e has_e sign colours room after_is has ∙ tall_k
+
+    long_W : length W ≡ suc k
+    long_W = cables.long_v p items pd e has_e sign colours room after_is has ∙ tall_k
+
+    long_M : length M ≡ suc k
+    long_M = cables.long_M p items pd e has_e sign colours room after_is has ∙ tall_k
+
+    ok_X1 : All IsNode X1
+    ok_X1 = cables.ok_1 p items pd e has_e sign colours room after_is has
+
+    twice : (z : ℕ) → 1 ≤ times_in (names_of (X1 ++ CR)) z → times_in (names_of (X1 ++ CR)) z ≡ 2
+    twice = cables.all_twice p items pd e has_e sign colours room after_is has
+
+    abbrev into : List ℕ
+    into = curls.into p free g i k sign E W M few_k long_E long_W long_M CR ok_X1 ok_CR twice sign
+
+    abbrev out : List ℕ
+    out = curls.out_of p free g i k sign E W M few_k long_E long_W long_M CR ok_X1 ok_CR twice sign
+
+    abbrev Ys : List ℕ
+    Ys = reverse out
+
+    abbrev w : ℕ
+    w = 2 * side sign
+
+    abbrev A : List ℕ
+    A = at_stub S w
+
+    -- the strands that come in are those of the stub, from the other end
+    side_second : (sg : Sign) → S.second (side sg) ≡ reverse (at_stub S (2 * side sg))
+    side_second sg = sym (stubs.at_high p R new after_is sizes_R colours has (side sg)) ∙ stubs.plain_stubs p R new after_is sizes_R colours has (side sg) (side_free sg)
+
+    into_side : (sg : Sign) → curls.into p free g i k sign E W M few_k long_E long_W long_M CR ok_X1 ok_CR twice sg ≡ S.second (side sg)
+    into_side signs.Plus = refl
+    into_side signs.Minus = refl
+
+    out_side : (sg : Sign) → curls.out_of p free g i k sign E W M few_k long_E long_W long_M CR ok_X1 ok_CR twice sg ≡ S.second (other sg)
+    out_side signs.Plus = refl
+    out_side signs.Minus = refl
+
+    into_is : into ≡ reverse A
+    into_is = into_side sign ∙ side_second sign
+
+    long_into : length into ≡ suc k
+    long_into = curls.long_into p free g i k sign E W M few_k long_E long_W long_M CR ok_X1 ok_CR twice sign
+
+    long_out : length out ≡ suc k
+    long_out = curls.long_out p free g i k sign E W M few_k long_E long_W long_M CR ok_X1 ok_CR twice sign
+
+    long_A : length A ≡ suc k
+    long_A = sym (length-reverse A) ∙ sym (ap length into_is) ∙ long_into
+
+    stands : 1 ≤ times_in (crossing_labels D) w
+    stands = stubs.first_there p R new after_is sizes_R colours has (side sign) (side_in sign)
+
+    same_long : length Ys ≡ length A
+    same_long = length-reverse out ∙ long_out ∙ sym long_A
+
+    -- ---- the strands beside the cut diagram
+    abbrev K0 : List Node
+    K0 = box ∷ (OB ++ arcs_of (zip (reverse A) Ys))
+
+    K0_count : (z : ℕ) → times_in (names_of (K0 ++ N)) z ≡ times_in into z + times_in out z + times_in (names_of CR) z
+    K0_count z =
+        let a = times_of-append z K0 N in
+        let b = times_of-append z (box ∷ OB) (arcs_of (zip (reverse A) Ys)) in
+        let d = arcs_times (reverse A) Ys z (same_long ∙ sym (length-reverse A)) in
+        let f = CR_count z in
+        let h = ap (λ xs. times_in xs z) into_is in
+        let r = times-reverse z out in
+        omega (arith, a, b, d, f, h, r)
+
+    base_are : AreStubs p S K0 1 1 0 lg D
+    base_are = record {
+      nodes = All-append IsNode (box ∷ OB) (arcs_of (zip (reverse A) Ys)) (All-cons IsNode box OB (All-head IsNode box B2 ok_B2) (All-append IsNode B1 B2 ok_B1 (All-tail IsNode box B2 ok_B2))) (arcs_ok (zip (reverse A) Ys));
+      crossings = ok_N;
+      sizes = sizes-stubbed [] R sizes_R;
+      straight = stubs.straight p R new after_is sizes_R colours has;
+      few = stubs.few_stubs p R new after_is sizes_R colours has;
+      once = stubs.once p R new after_is sizes_R colours has;
+      loops = stubs.loops p R new after_is sizes_R colours has;
+      twice = λ z one.
+          let q = K0_count z in
+          let two = curls.strands_twice p free g i k sign E W M few_k long_E long_W long_M CR ok_X1 ok_CR twice z (omega (arith, q, one)) in
+          omega (arith, q, two);
+    }
+
+    out_clear : (z : ℕ) → IsHigh z → times_in out z ≡ 0
+    out_clear z h =
+        let q : half (2 * other sign + 1) ≡ other sign = omega arith in
+        let low = low_label (other sign) (other_in sign) in
+        ap (λ xs. times_in xs z) (out_side sign ∙ sym (stubs.at_high p R new after_is sizes_R colours has (other sign))) ∙ stub_clear (2 * other sign + 1) z (omega (arith, q, low)) h
+
+    into_clear : (z : ℕ) → IsHigh z → times_in into z ≡ 0
+    into_clear z h =
+        let q : half w ≡ side sign = omega arith in
+        let low = low_label (side sign) (side_in sign) in
+        ap (λ xs. times_in xs z) into_is ∙ times-reverse z A ∙ stub_clear w z (omega (arith, q, low)) h
+
+    no_high : (z : ℕ) → IsHigh z → times_in (names_of (K0 ++ N)) z ≡ 0
+    no_high z h = let q = K0_count z in let a = into_clear z h in let b = out_clear z h in let d = CR_clear z h in omega (arith, q, a, b, d)
+
+    -- ---- the walk
+    is_projector : IsProjector p.modulus (loop_value p) (suc k) f0
+    is_projector =
+        let P : ℕ → ℕ → Type 0 = λ i j. IsProjector p.modulus (loop_value p) i (projector_of p j) in
+        let long : length (S.first l0) ≡ suc k = first_length colour boxed (projector_of p) l0 ∙ parts.colour_l0 p items pd e has_e sign colours room after_is has projectors tall unboxed ∙ tall_k in
+        let t = boxed_projector p after colours projectors l0 (parts.boxed_l0 p items pd e has_e sign colours room after_is has projectors tall unboxed) in
+        subst (λ j. P (suc k) j) (sym long) (subst (λ j. P j j) (parts.colour_l0 p items pd e has_e sign colours room after_is has projectors tall unboxed ∙ tall_k) t)
+
+    long_stub : (x : ℕ) → half x ≡ l0 → length (at_stub S x) ≡ suc k
+    long_stub x h = stubs.long p R new after_is sizes_R colours has x ∙ ap colour h ∙ parts.colour_l0 p items pd e has_e sign colours room after_is has projectors tall unboxed ∙ tall_k
+
+    frees : (K : List Node) → AreStubs p S (box ∷ K) 1 1 0 lg D → IsFree p free (is_plus sign) S (box ∷ K) 1 1 0 lg D w
+    frees K are =
+        let at_box = boxed_label p free (is_plus sign) S K 1 1 0 lg D f0 l0 k is_projector (long_stub (2 * l0) (omega arith)) (long_stub (2 * l0 + 1) (omega arith)) are numbered in
+        let walk = along_component p free (is_plus sign) S (box ∷ K) 1 1 0 lg D are numbered R sizes_R refl l0
+        (λ l j. ⊎_elim
+        (λ b. inl (let P : ℕ → Type 0 = λ i. AllFree p free (is_plus sign) S (box ∷ K) 1 1 0 lg D are numbered i in subst P (sym (parts.only_box p items pd e has_e sign colours room after_is has projectors tall unboxed l j b)) at_box))
+        (λ b. inr (λ one two. stubs.plain_stubs p R new after_is sizes_R colours has l b))
+        (cases_Bool (boxed l)))
+        (back (side_joined sign)) stay in
+        (walk.0 at_box).0 stands
+
+    -- ---- the twist
+    abbrev u : List Letter
+    u = words.twist p.root (inverse_root p) (is_plus sign) 0 k (suc k)
+
+    abbrev v0 : ℕ → ℕ
+    v0 = curls.v p free g i k sign E W M few_k long_E long_W long_M CR ok_X1 ok_CR twice 0
+
+    abbrev big : ℕ
+    big = curls.big p free g i k sign E W M few_k long_E long_W long_M CR ok_X1 ok_CR twice
+
+    abbrev H : ℕ
+    H = 16 * 2000001
+
+    letters_u : AreLetters p (is_plus sign) (length A) u
+    letters_u = subst (λ n. AreLetters p (is_plus sign) n u) (sym long_A) (twist_letters p (is_plus sign) (suc k) 0 k (suc k) (omega arith))
+
+    short_u : 2 * length u ≤ 112
+    short_u =
+        let a = count_length u in
+        let b = twist_count p.root (inverse_root p) (is_plus sign) 0 k (suc k) in
+        let d = few_letters k few_k in
+        omega (arith, a, b, d)
+
+    strands_same : (j : ℕ) → j < length A → v0 j ≡ slice_index A (length A - 1 - j)
+    strands_same j l =
+        curls.in_at p free g i k sign E W M few_k long_E long_W long_M CR ok_X1 ok_CR twice j (let q = long_A in omega (arith, q, l))
+        ∙ ap (λ xs. slice_index xs j) into_is ∙ get_or-reverse A j 0 l
+
+    into_among : (z : ℕ) → among v0 0 (length A) z ≡ times_in into z
+    into_among z =
+        ap (λ n. among v0 0 n z) long_A
+        ∙ ap (λ xs. times_in xs z) (curls.into_list p free g i k sign E W M few_k long_E long_W long_M CR ok_X1 ok_CR twice)
+
+    below_big : (z : ℕ) → 1 ≤ times_in into z + times_in out z + times_in (names_of CR) z → z < big
+    below_big z one =
+        curls.low_name p free g i k sign E W M few_k long_E long_W long_M CR ok_X1 ok_CR twice z one
+
+    abbrev LA : List Node
+    LA = letter_nodes u v0 big ++ arcs_of (zip (map (names_behind u v0 big) (range_with_len 0 (length A))) Ys)
+
+    told : curls.L p free g i k sign E W M few_k long_E long_W long_M CR ok_X1 ok_CR twice ++ curls.A p free g i k sign E W M few_k long_E long_W long_M CR ok_X1 ok_CR twice ≡ LA
+    told =
+        ap (λ ns. letter_nodes u v0 big ++ ns)
+        (curls.A_is p free g i k sign E W M few_k long_E long_W long_M CR ok_X1 ok_CR twice
+        ∙ ap (λ ys. arcs_of (zip (map (names_behind u v0 big) (range_with_len 0 (suc k))) ys)) (curls.leaves_list p free g i k sign E W M few_k long_E long_W long_M CR ok_X1 ok_CR twice)
+        ∙ ap (λ n. arcs_of (zip (map (names_behind u v0 big) (range_with_len 0 n)) Ys)) (sym long_A))
+
+    abbrev Z : ℕ
+    Z = V (arcs_of (zip into Ys) ++ CR)
+
+    absorbed : V (LA ++ CR) ≡ weight p (is_plus sign) ^ count u * Z % p.modulus
+    absorbed =
+        let among_u : AreAmong (length A) u = are_among p (is_plus sign) (length A) u letters_u in
+        let tA : ℕ → ℕ = λ j. slice_index A (length A - 1 - j) in
+        let word = letter_nodes u tA H ++ arcs_of (zip (map (names_behind u tA H) (range_with_len 0 (length A))) Ys) in
+        let arcs = arcs_of (zip (reverse A) Ys) in
+        renumbered p.modulus (loop_value p) free (length A) u among_u v0 tA strands_same Ys same_long CR ok_CR big H
+        (λ z one. below_big z (let q = into_among z in let r = times-reverse z out in omega (arith, q, r, one)))
+        (λ z lo hi.
+        let h : IsHigh z = (lo, (let s = short_u in omega (arith, hi, s))) in
+        let q = into_among z in let r = times-reverse z out in let a = into_clear z h in let b = out_clear z h in let d = CR_clear z h in
+        omega (arith, q, r, a, b, d))
+        ∙ front word (All-append IsNode (letter_nodes u tA H) (arcs_of (zip (map (names_behind u tA H) (range_with_len 0 (length A))) Ys)) (letters_ok u tA H) (arcs_ok (zip (map (names_behind u tA H) (range_with_len 0 (length A))) Ys)))
+        ∙ word_counts p free (is_plus sign) S box OB 1 1 0 lg D numbered w stands (stubs.alone p R new after_is sizes_R colours has (side sign) (side_once sign)) Ys same_long base_are no_high frees u H letters_u (omega arith)
+        (let s = short_u in omega (arith, s))
+        ∙ ap (λ j. weight p (is_plus sign) ^ count u * j % p.modulus) (sym (front arcs (arcs_ok (zip (reverse A) Ys))) ∙ ap (λ xs. V (arcs_of (zip xs Ys) ++ CR)) (sym into_is))
+
+    -- ---- the arcs
+    abbrev Pe : Bool → List (ℕ × ℕ)
+    Pe = cables.Pe p items pd e has_e sign colours room after_is has
+
+    arcs_are : (sg : Sign) → curl_pairs sg E W ≡ Pe (is_plus sg)
+    arcs_are signs.Plus =
+        ap₂ (λ xs ys. zip xs (reverse ys)) (cables.second_e p items pd e has_e sign colours room after_is has) (cables.second_v p items pd e has_e sign colours room after_is has)
+        ∙ ap (zip (second_names c (is_boxed after colours e) e)) (reverse-reverse (first_names c v))
+    arcs_are signs.Minus = ap₂ (λ xs ys. zip xs (reverse ys)) (cables.second_v p items pd e has_e sign colours room after_is has) (cables.second_e p items pd e has_e sign colours room after_is has)
+
+    pairs_are : (sg : Sign) → zip (curls.into p free g i k sign E W M few_k long_E long_W long_M CR ok_X1 ok_CR twice sg) (reverse (curls.out_of p free g i k sign E W M few_k long_E long_W long_M CR ok_X1 ok_CR twice sg)) ≡ curl_pairs sg E W
+    pairs_are signs.Plus = refl
+    pairs_are signs.Minus = refl
+
+    pub tall_edge : coloured p after colours ≡ curl_twist p c sign * coloured p items colours % p.modulus
+    tall_edge =
+        cables.curled_coloured p items pd e has_e sign colours room after_is has (curl_twist p c sign) (is_plus sign)
+        (curls.curl_counts p free g i k sign E W M few_k long_E long_W long_M CR ok_X1 ok_CR twice Z (ap (λ ns. V (ns ++ CR)) told ∙ absorbed)
+        ∙ ap₂ (λ j ps. curl_twist p j sign * V (arcs_of ps ++ CR) % p.modulus) (sym tall_k) (pairs_are sign ∙ arcs_are sign))
+
+  -- A CURL ON AN EDGE WITHOUT A BOX
+  pub boxless_edge : coloured p after colours ≡ curl_twist p c sign * coloured p items colours % p.modulus
+  boxless_edge = tall_edge (c - 1) (omega (arith, tall))
