@@ -110,7 +110,7 @@ walks_first (item.X slots ∷ R) new fs h = (h.0, (h.1.0, walks_first R new fs h
 walks_first (item.Loop l ∷ R) new fs h = walks_first R new fs h
 
 -- the ends of a strand stand at crossings
-strand_ends : (R : List Item) → AllByRecursion HasItsSlots R → AllByRecursion (λ (e : ℕ × ℕ). (is_member ◌==◌ (crossing_labels R) e.0 ≡ true) × (is_member ◌==◌ (crossing_labels R) e.1 ≡ true)) (strand_edges R)
+pub strand_ends : (R : List Item) → AllByRecursion HasItsSlots R → AllByRecursion (λ (e : ℕ × ℕ). (is_member ◌==◌ (crossing_labels R) e.0 ≡ true) × (is_member ◌==◌ (crossing_labels R) e.1 ≡ true)) (strand_edges R)
 strand_ends [] sizes = tt
 strand_ends (item.Loop l ∷ rest) sizes = strand_ends rest sizes.1
 strand_ends (item.X (a ∷ b ∷ c ∷ d ∷ []) ∷ rest) sizes =
@@ -131,7 +131,7 @@ strand_ends (item.X (a ∷ b ∷ []) ∷ rest) sizes = absurd (omega (arith, siz
 strand_ends (item.X (a ∷ b ∷ c ∷ []) ∷ rest) sizes = absurd (omega (arith, sizes.0))
 strand_ends (item.X (a ∷ b ∷ c ∷ d ∷ e ∷ slots) ∷ rest) sizes = absurd (omega (arith, sizes.0))
 
-both_ends : (test : ℕ → Bool) (es : List (ℕ × ℕ)) → AllByRecursion (λ (e : ℕ × ℕ). (test e.0 ≡ true) × (test e.1 ≡ true)) es → (x y : ℕ) → Contains es (x, y) → (test x ≡ true) × (test y ≡ true)
+pub both_ends : (test : ℕ → Bool) (es : List (ℕ × ℕ)) → AllByRecursion (λ (e : ℕ × ℕ). (test e.0 ≡ true) × (test e.1 ≡ true)) es → (x y : ℕ) → Contains es (x, y) → (test x ≡ true) × (test y ≡ true)
 both_ends test [] h x y w = absurd (omega (arith, w.1))
 both_ends test (e ∷ es) h x y (zero, l, q) = (ap test (sym (ap (λ (z : ℕ × ℕ). z.0) q)) ∙ h.0.0, ap test (sym (ap (λ (z : ℕ × ℕ). z.1) q)) ∙ h.0.1)
 both_ends test (e ∷ es) h x y (suc i, l, q) = both_ends test es h.1 x y (i, omega (arith, l), q)

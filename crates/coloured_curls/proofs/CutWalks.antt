@@ -27,11 +27,11 @@ use Rattle.move_results.proofs.CutComponents.{each_walk}
 use Rattle.move_results.proofs.LeastLabelLists.{joined_through}
 
 -- ---- how many entries pass a test
-abbrev ones : (ℕ → Bool) → List ℕ → ℕ
+abbrev pub ones : (ℕ → Bool) → List ℕ → ℕ
 ones test [] = 0
 ones test (x ∷ xs) = one_if (test x) + ones test xs
 
-abbrev IsEven : ℕ → Type 0
+abbrev pub IsEven : ℕ → Type 0
 IsEven n = (k : ℕ) × (n ≡ k + k)
 
 ones-append : (test : ℕ → Bool) (xs ys : List ℕ) → ones test (xs ++ ys) ≡ ones test xs + ones test ys
@@ -90,7 +90,7 @@ without_ones test x (y ∷ ys) =
     one_more false k n e = omega arith
 
 -- where each entry stands twice
-twice_even : (test : ℕ → Bool) (n : ℕ) (xs : List ℕ) → length xs ≤ n → ((z : ℕ) → 1 ≤ times_in xs z → times_in xs z ≡ 2) → IsEven (ones test xs)
+pub twice_even : (test : ℕ → Bool) (n : ℕ) (xs : List ℕ) → length xs ≤ n → ((z : ℕ) → 1 ≤ times_in xs z → times_in xs z ≡ 2) → IsEven (ones test xs)
 twice_even test n [] l h = (0, omega arith)
 twice_even test zero (x ∷ xs) l h = absurd (omega (arith, l))
 twice_even test (suc n) (x ∷ xs) l h =
@@ -114,7 +114,7 @@ twice_even test (suc n) (x ∷ xs) l h =
     (k + one_if (test x), omega (arith, u, v, e))
 
 -- where the ends of each strand pass together
-strands_even : (test : ℕ → Bool) (items : List Item) → AllByRecursion HasItsSlots items → AllByRecursion (λ (e : ℕ × ℕ). test e.0 ≡ test e.1) (strand_edges items) → IsEven (ones test (crossing_labels items))
+pub strands_even : (test : ℕ → Bool) (items : List Item) → AllByRecursion HasItsSlots items → AllByRecursion (λ (e : ℕ × ℕ). test e.0 ≡ test e.1) (strand_edges items) → IsEven (ones test (crossing_labels items))
 strands_even test [] sizes h = (0, omega arith)
 strands_even test (item.Loop l ∷ rest) sizes h = strands_even test rest sizes.1 h
 strands_even test (item.X (a ∷ b ∷ c ∷ d ∷ []) ∷ rest) sizes h =
@@ -159,7 +159,7 @@ pub all_along : (es fs : List (ℕ × ℕ)) → ((x y : ℕ) → Contains es (x,
 all_along [] fs h = tt
 all_along (e ∷ es) fs h = (along (h e.0 e.1 (0, omega arith, refl)), all_along es fs (λ x y c. h x y (suc c.0, omega (arith, c.1), c.2)))
 
-all_tested : (test : ℕ → Bool) (fs es : List (ℕ × ℕ)) → ((x y : ℕ) → Joined fs x y → test x ≡ test y) → AllByRecursion (λ (e : ℕ × ℕ). Joined fs e.0 e.1) es → AllByRecursion (λ (e : ℕ × ℕ). test e.0 ≡ test e.1) es
+pub all_tested : (test : ℕ → Bool) (fs es : List (ℕ × ℕ)) → ((x y : ℕ) → Joined fs x y → test x ≡ test y) → AllByRecursion (λ (e : ℕ × ℕ). Joined fs e.0 e.1) es → AllByRecursion (λ (e : ℕ × ℕ). test e.0 ≡ test e.1) es
 all_tested test fs [] h a = tt
 all_tested test fs (e ∷ es) h a = (h e.0 e.1 a.0, all_tested test fs es h a.1)
 

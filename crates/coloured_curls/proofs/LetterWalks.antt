@@ -21,7 +21,7 @@ use Rattle.cables.specs.CableNodes.{box_node}
 use Rattle.cables.specs.Strands.{Strands}
 use Rattle.cables.proofs.NameCounts.{at}
 use Rattle.diagram_moves.specs.Rewriting.{crossing_labels}
-use Rattle.coloured_moves.proofs.StubItems.{half, stub_half, stubs, stubbed, seen_after, at_stub, stub_nodes}
+use Rattle.coloured_moves.proofs.StubItems.{half, halved, at_stub, stub_nodes}
 use Rattle.coloured_curls.proofs.BoxedLoops.{half_turned}
 use Rattle.coloured_curls.proofs.BoxSteps.{box_step}
 use Rattle.coloured_curls.proofs.EdgeLetters.{AreNumbered, IsHigh}
@@ -31,43 +31,23 @@ use Rattle.coloured_curls.proofs.StubLetters.{changed, even_or_odd, four_times, 
 use Rattle.coloured_curls.proofs.StubSlides.{letter_at}
 
 -- ---- the crossing of a strand's edge
-edge_item : (R : List Item) (seen : List ℕ) → AllByRecursion HasItsSlots R → (a b : ℕ) → Contains (strand_edges R) (a, b) →
-    (pre : List Item) × (post : List Item) × (w0 : ℕ) × (w1 : ℕ) × (w2 : ℕ) × (w3 : ℕ) × (stubbed seen R ≡ pre ++ item.X (w0 ∷ w1 ∷ w2 ∷ w3 ∷ []) ∷ post) × (((half w0 ≡ a) × (half w2 ≡ b)) ⊎ ((half w1 ≡ a) × (half w3 ≡ b)))
-edge_item [] seen sizes a b w = absurd (omega (arith, w.1))
-edge_item (item.Loop l ∷ rest) seen sizes a b w =
-    let r = edge_item rest seen sizes.1 a b w in
+edge_item : (D : List Item) → AllByRecursion HasItsSlots D → (a b : ℕ) → Contains (strand_edges (halved D)) (a, b) →
+    (pre : List Item) × (post : List Item) × (w0 : ℕ) × (w1 : ℕ) × (w2 : ℕ) × (w3 : ℕ) × (D ≡ pre ++ item.X (w0 ∷ w1 ∷ w2 ∷ w3 ∷ []) ∷ post) × (((half w0 ≡ a) × (half w2 ≡ b)) ⊎ ((half w1 ≡ a) × (half w3 ≡ b)))
+edge_item [] sizes a b w = absurd (omega (arith, w.1))
+edge_item (item.Loop l ∷ rest) sizes a b w =
+    let r = edge_item rest sizes.1 a b w in
     (item.Loop l ∷ r.0, r.1, r.2, r.3, r.4, r.5, ap (λ is. item.Loop l ∷ is) r.6, r.7)
-edge_item (item.X (s0 ∷ s1 ∷ s2 ∷ s3 ∷ []) ∷ rest) seen sizes a b (zero, l, q) =
-    let later = stubbed (seen_after seen (s0 ∷ s1 ∷ s2 ∷ s3 ∷ [])) rest in (
-      [],
-      later,
-      _,
-      _,
-      _,
-      _,
-      refl,
-      inl (stub_half seen s0 ∙ ap (λ (z : ℕ × ℕ). z.0) q, stub_half (s1 ∷ s0 ∷ seen) s2 ∙ ap (λ (z : ℕ × ℕ). z.1) q),
-    )
-edge_item (item.X (s0 ∷ s1 ∷ s2 ∷ s3 ∷ []) ∷ rest) seen sizes a b (suc zero, l, q) =
-    let later = stubbed (seen_after seen (s0 ∷ s1 ∷ s2 ∷ s3 ∷ [])) rest in (
-      [],
-      later,
-      _,
-      _,
-      _,
-      _,
-      refl,
-      inr (stub_half (s0 ∷ seen) s1 ∙ ap (λ (z : ℕ × ℕ). z.0) q, stub_half (s2 ∷ s1 ∷ s0 ∷ seen) s3 ∙ ap (λ (z : ℕ × ℕ). z.1) q),
-    )
-edge_item (item.X (s0 ∷ s1 ∷ s2 ∷ s3 ∷ []) ∷ rest) seen sizes a b (suc (suc i), l, q) =
+edge_item (item.X (s0 ∷ s1 ∷ s2 ∷ s3 ∷ []) ∷ rest) sizes a b (zero, l, q) = ([], rest, s0, s1, s2, s3, refl, inl (ap (λ (z : ℕ × ℕ). z.0) q, ap (λ (z : ℕ × ℕ). z.1) q))
+edge_item (item.X (s0 ∷ s1 ∷ s2 ∷ s3 ∷ []) ∷ rest) sizes a b (suc zero, l, q) = ([], rest, s0, s1, s2, s3, refl, inr (ap (λ (z : ℕ × ℕ). z.0) q, ap (λ (z : ℕ × ℕ). z.1) q))
+edge_item (item.X (s0 ∷ s1 ∷ s2 ∷ s3 ∷ []) ∷ rest) sizes a b (suc (suc i), l, q) =
     let slots = s0 ∷ s1 ∷ s2 ∷ s3 ∷ [] in
-    let r = edge_item rest (seen_after seen slots) sizes.1 a b (i, omega (arith, l), q) in
-    (item.X (stubs seen slots) ∷ r.0, r.1, r.2, r.3, r.4, r.5, ap (λ is. item.X (stubs seen slots) ∷ is) r.6, r.7)
-edge_item (item.X [] ∷ rest) seen sizes a b w = absurd (omega (arith, sizes.0))
-edge_item (item.X (s0 ∷ []) ∷ rest) seen sizes a b w = absurd (omega (arith, sizes.0))
-edge_item (item.X (s0 ∷ s1 ∷ []) ∷ rest) seen sizes a b w = absurd (omega (arith, sizes.0))
-edge_item (item.X (s0 ∷ s1 ∷ s2 ∷ []) ∷ rest) seen sizes a b w = absurd (omega (arith, sizes.0))
-edge_item (item.X (s0 ∷ s1 ∷ s2 ∷ s3 ∷ s4 ∷ slots) ∷ rest) seen sizes a b w = absurd (omega (arith, sizes.0))
+    let r = edge_item rest sizes.1 a b (i, omega (arith, l), q) in
+    (item.X slots ∷ r.0, r.1, r.2, r.3, r.4, r.5, ap (λ is. item.X slots ∷ is) r.6, r.7)
+edge_item (item.X [] ∷ rest) sizes a b w = absurd (omega (arith, sizes.0))
+edge_item (item.X (s0 ∷ []) ∷ rest) sizes a b w = absurd (omega (arith, sizes.0))
+edge_item (item.X (s0 ∷ s1 ∷ []) ∷ rest) sizes a b w = absurd (omega (arith, sizes.0))
+edge_item (item.X (s0 ∷ s1 ∷ s2 ∷ []) ∷ rest) sizes a b w = absurd (omega (arith, sizes.0))
+edge_item (item.X (s0 ∷ s1 ∷ s2 ∷ s3 ∷ s4 ∷ slots) ∷ rest) sizes a b w = absurd (omega (arith, sizes.0))
 
 -- ---- stubs at which a small crossing counts as its weight
 module _ (p : Parameters) (free : ℕ) (t : Bool) (S : Strands) (K : List Node) (n0 g0 i0 lg0 : ℕ) where
@@ -152,7 +132,7 @@ module _ (p : Parameters) (free : ℕ) (t : Bool) (S : Strands) (K : List Node) 
         let G : ℕ → Type 0 = λ i. Stands i in
         ⊎_elim (λ e. subst F (sym e.0) (all.0 (subst G e.0 h))) (λ e. subst F (sym e.0) (all.1 (subst G e.0 h))) (even_or_odd w)
 
-    module _ (R : List Item) (sizes : AllByRecursion HasItsSlots R) (is : stubbed [] R ≡ D) (start : ℕ) (cases : (l : ℕ) → Joined (strand_edges R) start l → (AllFree l) ⊎ (IsPlain l)) where
+    module _ (R : List Item) (is : halved D ≡ R) (start : ℕ) (cases : (l : ℕ) → Joined (strand_edges R) start l → (AllFree l) ⊎ (IsPlain l)) where
       stands_at : (pre post : List Item) (w0 w1 w2 w3 w : ℕ) → D ≡ pre ++ item.X (w0 ∷ w1 ∷ w2 ∷ w3 ∷ []) ∷ post → 1 ≤ at w w0 + at w w1 + at w w2 + at w w3 → Stands w
       stands_at pre post w0 w1 w2 w3 w e h =
           let a = ap (λ xs. times_in (crossing_labels xs) w) e in
@@ -173,9 +153,10 @@ module _ (p : Parameters) (free : ℕ) (t : Bool) (S : Strands) (K : List Node) 
       one_edge : (a b : ℕ) → Contains (strand_edges R) (a, b) → Joined (strand_edges R) start a → (AllFree a → AllFree b) × (AllFree b → AllFree a)
       one_edge a b w here =
           let there : Joined (strand_edges R) start b = on here (along w) in
-          let r = edge_item R [] sizes a b w in
+          let P : List Item → Type 0 = λ xs. Contains (strand_edges xs) (a, b) in
+          let r = edge_item D are.sizes a b (subst P (sym is) w) in
           let pre = r.0 in let post = r.1 in let w0 = r.2 in let w1 = r.3 in let w2 = r.4 in let w3 = r.5 in
-          let e : D ≡ pre ++ item.X (w0 ∷ w1 ∷ w2 ∷ w3 ∷ []) ∷ post = sym is ∙ r.6 in
+          let e : D ≡ pre ++ item.X (w0 ∷ w1 ∷ w2 ∷ w3 ∷ []) ∷ post = r.6 in
           let c = at_crossing D pre post w0 w1 w2 w3 e are in
           let s0 = stands_at pre post w0 w1 w2 w3 w0 e (let o = own w0 in omega (arith, o)) in
           let s1 = stands_at pre post w0 w1 w2 w3 w1 e (let o = own w1 in omega (arith, o)) in

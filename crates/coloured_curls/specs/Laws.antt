@@ -1,5 +1,5 @@
 -- The laws of curls of cables, at any names, and of a curl on an edge with a box.
-use Rattle.std.specs.Prelude.{◌≡◌, ℕ, suc, ◌+◌, ◌-◌, ◌*◌, ◌^◌, ◌%◌, ◌<◌, ◌≤◌, ◌==◌, Bool, true, false, Ok, List, ◌∷◌, ◌++◌, length, reverse, All}
+use Rattle.std.specs.Prelude.{◌≡◌, ℕ, suc, ◌+◌, ◌-◌, ◌*◌, ◌^◌, ◌%◌, ◌<◌, ◌≤◌, ◌==◌, Bool, true, false, Some, None, Ok, List, ◌∷◌, ◌++◌, length, reverse, All}
 use Rattle.std.specs.List.{AllByRecursion, zip}
 use Rattle.std.specs.Set.{is_member}
 use Rattle.list_lemmas.specs.Times.{times_in}
@@ -21,9 +21,10 @@ use Rattle.planar_check.specs.declared.sign.Sign.{Sign}
 use Rattle.planar_check.specs.declared.sign.Sign.TheVariants as signs
 use Rattle.cables.specs.CableNodes.{crossing_cable, box_node}
 use Rattle.cables.specs.Nets.{HasProjector}
-use Rattle.script_reader.specs.declared.step.Step.TheVariants.{Curl}
+use Rattle.script_reader.specs.declared.step.Step.TheVariants.{Curl, CurlUndo}
+use Rattle.diagram_moves.specs.Anchors.{anchor_inside}
 use Rattle.diagram_moves.specs.Moves.{move, curl_of}
-use Rattle.diagram_moves.specs.Rewriting.{crossing_labels, fresh}
+use Rattle.diagram_moves.specs.Rewriting.{slot, crossing_at, crossing_labels, fresh}
 use Rattle.diagram_moves.specs.Steps.{Moved}
 use Rattle.coloured_values.specs.Coloured.{colour_of, is_boxed, coloured}
 use Rattle.coloured_values.specs.Laws.{HasColours}
@@ -100,3 +101,11 @@ abbrev pub CurlLaw : Type 0
 CurlLaw =
     (p : Parameters) (items : List Item) (e : ℕ) (sign : Sign) (moved : Moved) (colours : List ℕ) → IsDiagram items → fresh items + 3 ≤ 2000000 → HasColours items colours → AllByRecursion (HasProjector p) colours →
     move items (Curl e sign) ≡ Ok moved → coloured p moved.items colours ≡ numbers.twist p (colour_of items colours e) moved.factor.curl * coloured p items colours % p.modulus
+
+-- CurlUndo of a curl on a component of colour n multiplies the coloured value by mu_n to the power of the factor's curl, for all colours, where no box lies
+-- inside the curl and each colour has its projector. All edges of the curl's crossing are on one component.
+abbrev pub CurlUndoLaw : Type 0
+CurlUndoLaw =
+    (p : Parameters) (items : List Item) (c : ℕ) (here : List ℕ) (moved : Moved) (colours : List ℕ) → IsDiagram items → HasColours items colours → AllByRecursion (HasProjector p) colours →
+    crossing_at items c ≡ Some here → anchor_inside items colours (CurlUndo c) ≡ None → move items (CurlUndo c) ≡ Ok moved →
+    coloured p moved.items colours ≡ numbers.twist p (colour_of items colours (slot here 0)) moved.factor.curl * coloured p items colours % p.modulus

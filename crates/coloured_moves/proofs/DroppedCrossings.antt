@@ -3,19 +3,21 @@
 --
 --     dropped gone n items       the items without the crossings whose numbers are in `gone`; the first crossing has the number n
 --     number_before ..           which number an item had that has the number j without them
-use Rattle.std.proofs.Common.{◌≡◌, ℕ, ◌+◌, ◌-◌, ◌*◌, ◌/◌, ◌%◌, ◌^◌, ◌<◌, ◌≤◌, ◌==◌, nat_lt, Bool, true, false, cond, List, [], ◌∷◌, ◌++◌, map, length, refl, sym, ap, ap₂, ◌∙◌, arith, ⊎_elim, ◌⊎◌, inl, inr, All}
+use Rattle.std.proofs.Common.{◌≡◌, ℕ, ◌+◌, ◌-◌, ◌*◌, ◌/◌, ◌%◌, ◌^◌, ◌<◌, ◌≤◌, ◌==◌, nat_lt, Bool, true, false, cond, List, [], ◌∷◌, ◌++◌, map, length, refl, sym, ap, ap₂, ◌∙◌, arith, ⊎_elim, ◌⊎◌, inl, inr, All, subst}
 use Rattle.std.specs.List.{AllByRecursion}
 use Rattle.std.specs.Set.{is_member}
-use Rattle.std.proofs.lemmas.Bool.{cases_Bool, cases_order, eq-eqb, or_left, or_right}
+use Rattle.std.proofs.lemmas.Bool.{cases_Bool, cases_eq, cases_order, eq-eqb, or_left, or_right}
 use Rattle.std.proofs.lemmas.Bool.Decides.{nat_tests}
-use Rattle.std.proofs.lemmas.List.{map-append}
+use Rattle.std.proofs.lemmas.List.{length-map, map-append}
+use Rattle.std.proofs.lemmas.List.Elements.{All-cons, All-head, All-nil, All-tail}
 use Rattle.graph_parts.proofs.Distinct.{is_member-append}
 use Rattle.list_lemmas.specs.Times.{times_in}
-use Rattle.list_lemmas.proofs.Times.{times_of_member}
+use Rattle.list_lemmas.proofs.Times.{member_of_times, times_in-append, times_in-cons, times_of_member}
 use Rattle.state_sums.specs.LocalSums.{rename}
-use Rattle.state_sums.specs.Networks.{Node, Term, IsNode, names_of}
+use Rattle.state_sums.specs.Networks.{Node, Term, IsNode, IsPairing, names_of}
 use Rattle.state_sums.specs.StateSums.{value}
 use Rattle.state_sums.proofs.NetworkLaws.{any_names}
+use Rattle.state_sums.proofs.NodeNames.{names_of-rename}
 use Rattle.piece_laws.specs.TurnedNodes.{without_group}
 use Rattle.piece_laws.proofs.RenamedNodes.{rename-append, rename_fixed, rename_via}
 use Rattle.piece_laws.proofs.Ungrouped.{groups}
@@ -33,10 +35,11 @@ use Rattle.cables.proofs.NumberedStrands.{as_many_strands, first_length, label_l
 use Rattle.cables.proofs.RenamedCables.{crossing-renamed, loop-renamed}
 use Rattle.diagram_moves.proofs.Paired.{loop_labels}
 use Rattle.coloured_moves.proofs.ArcMerges.{map_fixed}
-use Rattle.coloured_moves.proofs.BundleMerges.{boxes_fixed}
 use Rattle.coloured_moves.proofs.LabelColours.{long_stub}
 use Rattle.coloured_moves.proofs.StubItems.{half, at_stub, stub_crossing, stub_nodes, boxes_of}
 use Rattle.coloured_moves.proofs.StubNames.{kept_stubs, Straight, stub_low}
+use Rattle.coloured_moves.proofs.Tests.{one_if, one_apart, one_same}
+use Rattle.cable_crossings.proofs.CabledBigon.{names_of-ungrouped}
 
 abbrev pub dropped : List ℕ → ℕ → List Item → List Item
 dropped gone n [] = []
@@ -186,6 +189,35 @@ crossing_moved p f g j i a b c d le ac bd few_a few_b low_a low_b low_c low_d st
         (λ k. (let l = k.1 in low_a z (omega (arith, l))))
         (zero_or_some (times_in a z))
 
+-- ---- nodes with other names, and other groups
+IsNode-renamed : (f : ℕ → ℕ) (nodes : List Node) → All IsNode (rename f nodes) → All IsNode nodes
+IsNode-renamed f [] h = All-nil IsNode
+IsNode-renamed f (node ∷ nodes) h =
+    let P : ℕ → Type 0 = λ k. All (λ term. IsPairing term.partner × (length term.partner ≡ k)) node.terms in
+    All-cons IsNode node nodes (subst P (length-map node.ends f) (All-head IsNode record { group = node.group; ends = map f node.ends; terms = node.terms } (rename f nodes) h)) (IsNode-renamed f nodes (All-tail IsNode record { group = node.group; ends = map f node.ends; terms = node.terms } (rename f nodes) h))
+
+IsNode-ungrouped : (nodes : List Node) → All IsNode nodes → All IsNode (map without_group nodes)
+IsNode-ungrouped [] h = All-nil IsNode
+IsNode-ungrouped (node ∷ nodes) h = All-cons IsNode (without_group node) (map without_group nodes) (All-head IsNode node nodes h) (IsNode-ungrouped nodes (All-tail IsNode node nodes h))
+
+IsNode-grouped : (nodes : List Node) → All IsNode (map without_group nodes) → All IsNode nodes
+IsNode-grouped [] h = All-nil IsNode
+IsNode-grouped (node ∷ nodes) h = All-cons IsNode node nodes (All-head IsNode (without_group node) (map without_group nodes) h) (IsNode-grouped nodes (All-tail IsNode (without_group node) (map without_group nodes) h))
+
+-- names that stay apart stand as often under their new names
+times_mapped : (f : ℕ → ℕ) → ((x y : ℕ) → f x ≡ f y → x ≡ y) → (xs : List ℕ) (z : ℕ) → times_in (map f xs) (f z) ≡ times_in xs z
+times_mapped f apart [] z = refl
+times_mapped f apart (x ∷ xs) z =
+    let ih = times_mapped f apart xs z in
+    let a = times_in-cons (f x) (map f xs) (f z) in
+    let b = times_in-cons x xs z in
+    let same : one_if (f z == f x) ≡ one_if (z == x) =
+    ⊎_elim
+    (λ (e : z ≡ x). one_same (f z) (f x) (ap f e) ∙ sym (one_same z x e))
+    (λ d. one_apart (f z) (f x) (λ e. d (apart z x e)) ∙ sym (one_apart z x d))
+    (cases_eq z x) in
+    omega (arith, ih, a, b, same)
+
 -- ---- all items
 module _ (p : Parameters) (colour : ℕ → ℕ) (boxed : ℕ → Bool) (box : ℕ → List Term) (few : (l : ℕ) → colour l ≤ 8) (gone : List ℕ) where
   abbrev S : Strands
@@ -263,27 +295,69 @@ module _ (p : Parameters) (colour : ℕ → ℕ) (boxed : ℕ → Bool) (box : �
   moved_nodes f stays m n g h i j lg lh (item.X (a ∷ b ∷ c ∷ []) ∷ rest) le st at_stubs at_loops moves = absurd st.0
   moved_nodes f stays m n g h i j lg lh (item.X (a ∷ b ∷ c ∷ d ∷ e ∷ ws) ∷ rest) le st at_stubs at_loops moves = absurd st.0
 
-  -- CROSSINGS LEFT OUT
+  -- ---- the crossings beside other nodes
+  module _ (lg lh : ℕ) (items : List Item) (st : AllByRecursion (Straight S) items) (at_stubs : (w : ℕ) → is_member ◌==◌ (kept_stubs gone 1 items) w ≡ true → half w ≤ 2000000)
+      (at_loops : (l : ℕ) → is_member ◌==◌ (loop_labels items) l ≡ true → l ≤ 2000000) where
+    abbrev before : ℕ → ℕ
+    before = number_before gone 1 0 0 items
+
+    abbrev pub old_name : ℕ → ℕ
+    old_name = name_before before
+
+    abbrev new : List Node
+    new = stub_nodes p S [] 1 1 0 lg (dropped gone 1 items)
+
+    abbrev old : List Node
+    old = stub_nodes p S gone 1 1 0 lh items
+
+    pub low_name : (z : ℕ) → z < 2 ^ 25 → old_name z ≡ z
+    low_name z l = name_low before z l
+
+    apart : (x y : ℕ) → old_name x ≡ old_name y → x ≡ y
+    apart x y e = name_apart before (λ k l q. before_order gone 1 0 0 items k l (omega arith) (omega arith) q) x y e
+
+    crossings_same : map without_group (rename old_name new) ≡ map without_group old
+    crossings_same = moved_nodes old_name (name_low before) 1 1 1 1 0 0 lg lh items (omega arith) st at_stubs at_loops (λ k o q r. name_at before k o r)
+
+    pub dropped_ok : All IsNode old → All IsNode new
+    dropped_ok ok = IsNode-renamed old_name new (IsNode-grouped (rename old_name new) (subst (All IsNode) (sym crossings_same) (IsNode-ungrouped old ok)))
+
+    -- how often a name stands
+    pub dropped_names : (z : ℕ) → times_in (names_of new) z ≡ times_in (names_of old) (old_name z)
+    dropped_names z =
+        sym (times_mapped old_name apart (names_of new) z)
+        ∙ ap (λ ns. times_in ns (old_name z)) (sym (names_of-rename old_name new) ∙ sym (names_of-ungrouped (rename old_name new)) ∙ ap names_of crossings_same ∙ names_of-ungrouped old)
+
+    -- CROSSINGS LEFT OUT
+    pub dropped_beside : (modulus delta free : ℕ) (nodes : List Node) → ((z : ℕ) → is_member ◌==◌ (names_of nodes) z ≡ true → z < 2 ^ 25) → All IsNode (nodes ++ new) →
+        value modulus delta record { nodes = nodes ++ new; free_loops = free } ≡ value modulus delta record { nodes = nodes ++ old; free_loops = free }
+    dropped_beside modulus delta free nodes low ok =
+        let same : map without_group (rename old_name (nodes ++ new)) ≡ map without_group (nodes ++ old) =
+        ap (map without_group) (rename-append old_name nodes new)
+        ∙ map-append without_group (rename old_name nodes) (rename old_name new)
+        ∙ ap₂ (λ x y. map without_group x ++ y) (rename_fixed old_name nodes (λ z m. name_low before z (low z m))) crossings_same
+        ∙ sym (map-append without_group nodes old) in
+        sym (any_names modulus delta free old_name (nodes ++ new) ok (λ x y mx my e. apart x y e))
+        ∙ (groups delta free (rename old_name (nodes ++ new)) (nodes ++ old) same).values modulus
+
+  -- CROSSINGS LEFT OUT BESIDE BOXES
   pub dropped_value : (modulus delta free lg lh : ℕ) (ls : List ℕ) (items : List Item) → AllByRecursion (λ l. l ≤ 2000000) ls → AllByRecursion (Straight S) items → ((w : ℕ) → is_member ◌==◌ (kept_stubs gone 1 items) w ≡ true → half w ≤ 2000000) →
       ((l : ℕ) → is_member ◌==◌ (loop_labels items) l ≡ true → l ≤ 2000000) → All IsNode (boxes_of S ls ++ stub_nodes p S [] 1 1 0 lg (dropped gone 1 items)) →
       value modulus delta record { nodes = boxes_of S ls ++ stub_nodes p S [] 1 1 0 lg (dropped gone 1 items); free_loops = free }
       ≡ value modulus delta record { nodes = boxes_of S ls ++ stub_nodes p S gone 1 1 0 lh items; free_loops = free }
-  dropped_value modulus delta free lg lh ls items small st at_stubs at_loops ok =
-      let before : ℕ → ℕ = number_before gone 1 0 0 items in
-      let f : ℕ → ℕ = name_before before in
-      let new = stub_nodes p S [] 1 1 0 lg (dropped gone 1 items) in
-      let old = stub_nodes p S gone 1 1 0 lh items in
-      let boxes = boxes_of S ls in
-      let same : map without_group (rename f (boxes ++ new)) ≡ map without_group (boxes ++ old) =
-      ap (map without_group) (rename-append f boxes new)
-      ∙ map-append without_group (rename f boxes) (rename f new)
-      ∙ ap₂ (λ x y. map without_group x ++ y) (boxes_fixed S f ls (boxes_low f ls small)) (moved_nodes f (name_low before) 1 1 1 1 0 0 lg lh items (omega arith) st at_stubs at_loops (λ k o q r. name_at before k o r))
-      ∙ sym (map-append without_group boxes old) in
-      sym (any_names modulus delta free f (boxes ++ new) ok (λ x y mx my e. name_apart before (λ k l q. before_order gone 1 0 0 items k l (omega arith) (omega arith) q) x y e))
-      ∙ (groups delta free (rename f (boxes ++ new)) (boxes ++ old) same).values modulus
+  dropped_value modulus delta free lg lh ls items small st at_stubs at_loops ok = dropped_beside lg lh items st at_stubs at_loops modulus delta free (boxes_of S ls) (boxes_low ls small) ok
     where
-      boxes_low : (f : ℕ → ℕ) (ls : List ℕ) → AllByRecursion (λ l. l ≤ 2000000) ls → AllByRecursion (λ l. (map (name_before (number_before gone 1 0 0 items)) (S.first l) ≡ S.first l) × (map (name_before (number_before gone 1 0 0 items)) (S.second l) ≡ S.second l)) ls
-      boxes_low f [] h = tt
-      boxes_low f (l ∷ ls) h =
-          let before : ℕ → ℕ = number_before gone 1 0 0 items in
-          ((map_fixed (name_before before) (S.first l) (λ z q. name_low before z (first_low l h.0 z q)), map_fixed (name_before before) (S.second l) (λ z q. name_low before z (second_low l h.0 z q))), boxes_low f ls h.1)
+      boxes_low : (ls : List ℕ) → AllByRecursion (λ l. l ≤ 2000000) ls → (z : ℕ) → is_member ◌==◌ (names_of (boxes_of S ls)) z ≡ true → z < 2 ^ 25
+      boxes_low [] h z m = absurd (grind (arith, m))
+      boxes_low (l ∷ ls) h z m =
+          let one = times_of_member z (names_of (boxes_of S (l ∷ ls))) m in
+          let a = times_in-append (S.first l ++ S.second l) (names_of (boxes_of S ls)) z in
+          let b = times_in-append (S.first l) (S.second l) z in
+          ⊎_elim
+          (λ (n : times_in (S.first l) z ≡ 0).
+          ⊎_elim
+          (λ (k : times_in (S.second l) z ≡ 0). boxes_low ls h.1 z (member_of_times z (names_of (boxes_of S ls)) (omega (arith, one, a, b, n, k))))
+          (λ k. (let k1 = k.1 in second_low l h.0 z (omega (arith, k1))))
+          (zero_or_some (times_in (S.second l) z)))
+          (λ n. (let n1 = n.1 in first_low l h.0 z (omega (arith, n1))))
+          (zero_or_some (times_in (S.first l) z))

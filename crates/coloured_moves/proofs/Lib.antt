@@ -25,6 +25,7 @@ pub mod LabelColours
 pub mod SlidCables
 pub mod PulledBundles
 pub mod PulledStubs
+pub mod ClosedCables
 pub mod PulledCables
 pub mod ColouredSlides
 pub mod ColouredBigons

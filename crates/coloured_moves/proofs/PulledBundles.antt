@@ -54,12 +54,12 @@ use Rattle.coloured_moves.proofs.TurnedBoxes.{names_permuted}
 use Rattle.coloured_moves.proofs.Tests.{one_if, one_most, one_same}
 
 -- ---- stubs of a diagram
-loop_labels-stubbed : (seen : List ℕ) (items : List Item) → loop_labels (stubbed seen items) ≡ loop_labels items
+pub loop_labels-stubbed : (seen : List ℕ) (items : List Item) → loop_labels (stubbed seen items) ≡ loop_labels items
 loop_labels-stubbed seen [] = refl
 loop_labels-stubbed seen (item.X slots ∷ rest) = loop_labels-stubbed (seen_after seen slots) rest
 loop_labels-stubbed seen (item.Loop l ∷ rest) = ap (λ ls. l ∷ ls) (loop_labels-stubbed seen rest)
 
-straight_stubbed : (strands : Strands) → ((l : ℕ) → length (strands.second l) ≡ length (strands.first l)) → (seen : List ℕ) (items : List Item) → AllByRecursion HasItsSlots items → AllByRecursion (Fits strands) (as_net items) →
+pub straight_stubbed : (strands : Strands) → ((l : ℕ) → length (strands.second l) ≡ length (strands.first l)) → (seen : List ℕ) (items : List Item) → AllByRecursion HasItsSlots items → AllByRecursion (Fits strands) (as_net items) →
     AllByRecursion (Straight strands) (stubbed seen items)
 straight_stubbed strands even seen [] sizes h = tt
 straight_stubbed strands even seen (item.Loop l ∷ rest) sizes h = (tt, straight_stubbed strands even seen rest sizes.1 h.1)
