@@ -49,7 +49,7 @@ use Rattle.cable_crossings.proofs.StepPieces.{All-first, All-second}
 use Rattle.coloured_moves.proofs.ColouredSlides.{boxed_projector}
 use Rattle.coloured_moves.proofs.CurledCables as cables
 use Rattle.coloured_moves.proofs.CurledStrands.{curl_twist}
-use Rattle.coloured_moves.proofs.ExchangedStubs.{sizes-stubbed}
+use Rattle.coloured_moves.proofs.ExchangedStubs.{halved_stubbed, sizes-stubbed}
 use Rattle.coloured_moves.proofs.StubItems.{half, boxes_of, first_boxes, first_labels, first_labels_times, at_stub, split, stub_nodes, stubbed, ungrouped_boxes}
 use Rattle.coloured_moves.proofs.StubNames.{stub_sum, stub_sum_none, loop_sum, stub_nodes_times}
 use Rattle.coloured_moves.proofs.TurnedBoxes.{boxes_ok, names_permuted, ungrouped_value}
@@ -483,7 +483,7 @@ module _ (p : Parameters) (items : List Item) (pd : IsPairedDiagram items) (e : 
     frees : (K : List Node) → AreStubs p S (box ∷ K) 1 1 0 lg D → IsFree p free (is_plus sign) S (box ∷ K) 1 1 0 lg D w
     frees K are =
         let at_box = boxed_label p free (is_plus sign) S K 1 1 0 lg D f0 l0 k is_projector (long_stub (2 * l0) (omega arith)) (long_stub (2 * l0 + 1) (omega arith)) are numbered in
-        let walk = along_component p free (is_plus sign) S (box ∷ K) 1 1 0 lg D are numbered R sizes_R refl l0
+        let walk = along_component p free (is_plus sign) S (box ∷ K) 1 1 0 lg D are numbered R (halved_stubbed [] R) l0
         (λ l j. ⊎_elim
         (λ b. inl (let P : ℕ → Type 0 = λ i. AllFree p free (is_plus sign) S (box ∷ K) 1 1 0 lg D are numbered i in subst P (sym (parts.only_box p items pd e has_e sign colours room after_is has projectors tall unboxed l j b)) at_box))
         (λ b. inr (λ one two. stubs.plain_stubs p R new after_is sizes_R colours has l b))

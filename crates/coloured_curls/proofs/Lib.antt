@@ -19,6 +19,8 @@ pub mod SwappedNames
 pub mod EdgeLetters
 pub mod EdgeSteps
 pub mod BoxSteps
+pub mod UndoneBundles
+pub mod UncurledWalks
 pub mod LetterWalks
 pub mod RenumberedLetters
 pub mod LetterWords

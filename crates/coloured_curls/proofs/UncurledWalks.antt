@@ -36,8 +36,8 @@ kept_dropped gone n [] = refl
 kept_dropped gone n (item.Loop l ∷ rest) = kept_dropped gone n rest
 kept_dropped gone n (item.X ws ∷ rest) =
     let later = dropped gone (n + 1) rest in
-    ap (λ es. cond (is_member ◌==◌ gone n) [] (item_strands (item.X ws)) ++ es) (kept_dropped gone (n + 1) rest)
-    ∙ elim (is_member ◌==◌ gone n) as (λ b. cond b [] (item_strands (item.X ws)) ++ strand_edges later ≡ strand_edges (cond b [] (item.X ws ∷ []) ++ later)) [ true ↦ refl | false ↦ refl ]
+    ap (λ es. cond (is_member ◌==◌ gone n) es (item_strands (item.X ws) ++ es)) (kept_dropped gone (n + 1) rest)
+    ∙ elim (is_member ◌==◌ gone n) as (λ b. cond b (strand_edges later) (item_strands (item.X ws) ++ strand_edges later) ≡ strand_edges (cond b [] (item.X ws ∷ []) ++ later)) [ true ↦ refl | false ↦ refl ]
 
 pub sizes-dropped : (gone : List ℕ) (n : ℕ) (items : List Item) → AllByRecursion HasItsSlots items → AllByRecursion HasItsSlots (dropped gone n items)
 sizes-dropped gone n [] h = tt
@@ -47,18 +47,18 @@ sizes-dropped gone n (item.X ws ∷ rest) h =
     elim (is_member ◌==◌ gone n) as (λ b. AllByRecursion HasItsSlots (cond b [] (item.X ws ∷ []) ++ dropped gone (n + 1) rest)) [ true ↦ ih | false ↦ (h.0, ih) ]
 
 -- the two strands of a crossing, told from one of its slots
-corners : (J : ℕ → ℕ → Type 0) → ((y z : ℕ) → J y z → J z y) → (ws : List ℕ) (s : ℕ) → s < 4 → J (slot ws s) (slot ws (s + 2)) → J (slot ws (s + 1)) (slot ws (s + 3)) →
-    J (slice_index ws 0) (slice_index ws 2) × J (slice_index ws 1) (slice_index ws 3)
-corners J turn ws zero l p q = (p, q)
-corners J turn ws (suc zero) l p q = (turn (slice_index ws 2) (slice_index ws 0) q, p)
-corners J turn ws (suc (suc zero)) l p q = (turn (slice_index ws 2) (slice_index ws 0) p, turn (slice_index ws 3) (slice_index ws 1) q)
-corners J turn ws (suc (suc (suc zero))) l p q = (q, turn (slice_index ws 3) (slice_index ws 1) p)
-corners J turn ws (suc (suc (suc (suc s)))) l p q = absurd (omega (arith, l))
+corners : (Q : ℕ → ℕ → Type 0) → ((y z : ℕ) → Q y z → Q z y) → (ws : List ℕ) (s : ℕ) → s < 4 → Q (slot ws s) (slot ws (s + 2)) → Q (slot ws (s + 1)) (slot ws (s + 3)) →
+    Q (slice_index ws 0) (slice_index ws 2) × Q (slice_index ws 1) (slice_index ws 3)
+corners Q turn ws zero l p q = (p, q)
+corners Q turn ws (suc zero) l p q = (turn (slice_index ws 2) (slice_index ws 0) q, p)
+corners Q turn ws (suc (suc zero)) l p q = (turn (slice_index ws 2) (slice_index ws 0) p, turn (slice_index ws 3) (slice_index ws 1) q)
+corners Q turn ws (suc (suc (suc zero))) l p q = (q, turn (slice_index ws 3) (slice_index ws 1) p)
+corners Q turn ws (suc (suc (suc (suc s)))) l p q = absurd (omega (arith, l))
 
-of_two : (J : ℕ → ℕ → Type 0) (a b c d y z : ℕ) → J a b → J c d → Contains ((a, b) ∷ (c, d) ∷ []) (y, z) → J y z
-of_two J a b c d y z p q (zero, l, e) = subst (λ w. J y w) (ap (λ (w : ℕ × ℕ). w.1) e) (subst (λ w. J w b) (ap (λ (w : ℕ × ℕ). w.0) e) p)
-of_two J a b c d y z p q (suc zero, l, e) = subst (λ w. J y w) (ap (λ (w : ℕ × ℕ). w.1) e) (subst (λ w. J w d) (ap (λ (w : ℕ × ℕ). w.0) e) q)
-of_two J a b c d y z p q (suc (suc i), l, e) = absurd (omega (arith, l))
+of_two : (Q : ℕ → ℕ → Type 0) (ws : List ℕ) → Q (slice_index ws 0) (slice_index ws 2) → Q (slice_index ws 1) (slice_index ws 3) → (y z : ℕ) → Contains (item_strands (item.X ws)) (y, z) → Q y z
+of_two Q ws p q y z (zero, l, e) = subst (λ w. Q y w) (ap (λ (w : ℕ × ℕ). w.1) e) (subst (λ w. Q w (slice_index ws 2)) (ap (λ (w : ℕ × ℕ). w.0) e) p)
+of_two Q ws p q y z (suc zero, l, e) = subst (λ w. Q y w) (ap (λ (w : ℕ × ℕ). w.1) e) (subst (λ w. Q w (slice_index ws 3)) (ap (λ (w : ℕ × ℕ). w.0) e) q)
+of_two Q ws p q y z (suc (suc i), l, e) = absurd (omega (arith, l))
 
 module _ (items : List Item) (pd : IsPairedDiagram items) (c : ℕ) (here : List ℕ) (found : crossing_at items c ≡ Some here) (s : ℕ) (low_s : s < 4) (test : is_curl here s ≡ true) where
   -- the loop, and the two ends
@@ -178,7 +178,7 @@ module _ (items : List Item) (pd : IsPairedDiagram items) (c : ℕ) (here : List
   from_crossing y z w =
       let second : J (slot here (s + 1)) b = subst (λ k. J k b) (sym shared) to_second in
       let two = corners J (λ y z j. back j) here s low_s to_first second in
-      of_two J (slice_index here 0) (slice_index here 2) (slice_index here 1) (slice_index here 3) y z two.0 two.1 w
+      of_two J here two.0 two.1 y z w
 
   away : (y : ℕ) → is_member ◌==◌ rs y ≡ true → y ≢ x
   away y m e = let one = times_of_member y rs m in let k = ap (times_in rs) e in let g = loop_gone in omega (arith, one, k, g)

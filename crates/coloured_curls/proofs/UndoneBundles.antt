@@ -113,10 +113,10 @@ module _ (p : Parameters) (items : List Item) (is : IsDiagram items) (c : ℕ) (
   abbrev pub B : List Item
   B = stubbed [] items
 
-  abbrev hereB : List ℕ
+  abbrev pub hereB : List ℕ
   hereB = stubs (crossing_stubbed 1 [] items c here found).0 here
 
-  found_B : crossing_at B c ≡ Some hereB
+  pub found_B : crossing_at B c ≡ Some hereB
   found_B = (crossing_stubbed 1 [] items c here found).1
 
   half_here : (i : ℕ) → half (slot hereB i) ≡ slot here i
@@ -209,7 +209,7 @@ module _ (p : Parameters) (items : List Item) (is : IsDiagram items) (c : ℕ) (
   abbrev pub bx : List Node
   bx = boxes_of S L
 
-  abbrev at_c : (g : ℕ) × (k : ℕ) × ((h : ℕ → List ℕ → List ℕ) → IsPermutation (stub_nodes p S [] 1 1 0 lg (anew h 1 B)) (stub_crossing p S g k (h c hereB) ++ stub_nodes p S (c ∷ []) 1 1 0 lg (anew h 1 B)))
+  abbrev pub at_c : (g : ℕ) × (k : ℕ) × ((h : ℕ → List ℕ → List ℕ) → IsPermutation (stub_nodes p S [] 1 1 0 lg (anew h 1 B)) (stub_crossing p S g k (h c hereB) ++ stub_nodes p S (c ∷ []) 1 1 0 lg (anew h 1 B)))
   at_c = pulled p S [] 1 1 0 lg B c hereB found_B refl
 
   abbrev pub X1 : List Node
