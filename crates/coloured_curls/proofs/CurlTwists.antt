@@ -51,9 +51,33 @@ under c j = omega arith
 third_stands : (a b k : ℕ) → 1 ≤ a + b + k → a ≡ 0 → b ≡ 0 → 1 ≤ k
 third_stands a b k one no_a no_b = omega (arith, one, no_a, no_b)
 
-module _ (p : Parameters) (free g k c : ℕ) (sign : Sign) (E W M : List ℕ) (few : suc c ≤ 8) (long_E : length E ≡ suc c) (long_W : length W ≡ suc c) (long_M : length M ≡ suc c)
-    (R0 : List Node) (ok_X : All IsNode (curl_cable p g k sign E W M)) (ok_0 : All IsNode R0)
-    (twice : (z : ℕ) → 1 ≤ times_in (names_of (curl_cable p g k sign E W M ++ R0)) z → times_in (names_of (curl_cable p g k sign E W M ++ R0)) z ≡ 2) where
+-- which strands of a curl go in where the twist stands, and which come out
+abbrev pub strands_in : Sign → List ℕ → List ℕ → List ℕ
+strands_in signs.Plus E W = E
+strands_in signs.Minus E W = W
+
+abbrev pub strands_out : Sign → List ℕ → List ℕ → List ℕ
+strands_out signs.Plus E W = W
+strands_out signs.Minus E W = E
+
+pub told_curl : (p : Parameters) (g k c : ℕ) (sign : Sign) (E W M : List ℕ) → length E ≡ suc c → length W ≡ suc c → length M ≡ suc c → All IsNode (curl_cable p g k sign E W M) →
+    IsTold p.modulus (loop_value p) (curl_cable p g k sign E W M) (crossed p.root (inverse_root p) (is_plus sign) 0).straight (crossed p.root (inverse_root p) (is_plus sign) 0).hook (strands_in sign E W) (strands_out sign E W) M (reverse M)
+told_curl p g k c signs.Plus E W M long_E long_W long_M h = told p (loop_value p) g k E W M (reverse M) (long_E ∙ sym long_M) (long_W ∙ sym (length-reverse M ∙ long_M)) h
+told_curl p g k c signs.Minus E W M long_E long_W long_M h =
+    let sides : ℕ → List ℕ = λ i. cond (i == 0) E (cond (i == 1) M (cond (i == 2) (reverse M) W)) in
+    told_from p (loop_value p) g k sides (long_E ∙ sym (length-reverse M ∙ long_M)) (long_M ∙ sym long_W) h 3 (omega arith)
+
+pub long_strands_in : (n : ℕ) (sign : Sign) (E W : List ℕ) → length E ≡ n → length W ≡ n → length (strands_in sign E W) ≡ n
+long_strands_in n signs.Plus E W e w = e
+long_strands_in n signs.Minus E W e w = w
+
+pub long_strands_out : (n : ℕ) (sign : Sign) (E W : List ℕ) → length E ≡ n → length W ≡ n → length (strands_out sign E W) ≡ n
+long_strands_out n signs.Plus E W e w = w
+long_strands_out n signs.Minus E W e w = e
+
+module _ (p : Parameters) (free c : ℕ) (sign : Sign) (into out M : List ℕ) (few : suc c ≤ 8) (long_into : length into ≡ suc c) (long_out : length out ≡ suc c) (long_M : length M ≡ suc c) (X1 R0 : List Node)
+    (t : IsTold p.modulus (loop_value p) X1 (crossed p.root (inverse_root p) (is_plus sign) 0).straight (crossed p.root (inverse_root p) (is_plus sign) 0).hook into out M (reverse M)) (ok_0 : All IsNode R0)
+    (twice : (z : ℕ) → 1 ≤ times_in (names_of (X1 ++ R0)) z → times_in (names_of (X1 ++ R0)) z ≡ 2) where
   abbrev pub m : ℕ
   m = p.modulus
 
@@ -81,52 +105,24 @@ module _ (p : Parameters) (free g k c : ℕ) (sign : Sign) (E W M : List ℕ) (f
   abbrev pub V : List Node → ℕ
   V ns = value m delta record { nodes = ns; free_loops = free }
 
-  abbrev pub X1 : List Node
-  X1 = curl_cable p g k sign E W M
-
-  abbrev pub into : Sign → List ℕ
-  into signs.Plus = E
-  into signs.Minus = W
-
-  abbrev pub out_of : Sign → List ℕ
-  out_of signs.Plus = W
-  out_of signs.Minus = E
-
-  pub long_into : (sg : Sign) → length (into sg) ≡ N
-  long_into signs.Plus = long_E
-  long_into signs.Minus = long_W
-
-  pub long_out : (sg : Sign) → length (out_of sg) ≡ N
-  long_out signs.Plus = long_W
-  long_out signs.Minus = long_E
-
-  pub told_curl : (sg : Sign) → All IsNode (curl_cable p g k sg E W M) → IsTold m delta (curl_cable p g k sg E W M) (crossed a b (is_plus sg) 0).straight (crossed a b (is_plus sg) 0).hook (into sg) (out_of sg) M (reverse M)
-  told_curl signs.Plus h = told p delta g k E W M (reverse M) (long_E ∙ sym long_M) (long_W ∙ sym (length-reverse M ∙ long_M)) h
-  told_curl signs.Minus h =
-      let sides : ℕ → List ℕ = λ i. cond (i == 0) E (cond (i == 1) M (cond (i == 2) (reverse M) W)) in
-      told_from p delta g k sides (long_E ∙ sym (length-reverse M ∙ long_M)) (long_M ∙ sym long_W) h 3 (omega arith)
-
-  pub t : IsTold m delta X1 x y (into sign) (out_of sign) M (reverse M)
-  t = told_curl sign ok_X
-
   abbrev pub v : ℕ → ℕ → ℕ
   v = t.v
 
   abbrev pub h : ℕ → ℕ → ℕ
   h = t.h
 
-  pub in_at : (j : ℕ) → j < N → v 0 j ≡ slice_index (into sign) j
-  in_at j l = t.south j (let e = long_into sign in omega (arith, e, l))
+  pub in_at : (j : ℕ) → j < N → v 0 j ≡ slice_index into j
+  in_at j l = t.south j (let e = long_into in omega (arith, e, l))
 
-  pub out_at : (i : ℕ) → i < N → h i N ≡ slice_index (out_of sign) i
-  out_at i l = ap (λ w. h i (long w)) (sym (long_into sign)) ∙ t.east i (let e = long_out sign in omega (arith, e, l))
+  pub out_at : (i : ℕ) → i < N → h i N ≡ slice_index out i
+  out_at i l = ap (λ w. h i (long w)) (sym long_into) ∙ t.east i (let e = long_out in omega (arith, e, l))
 
   meet : (j : ℕ) → j < N → v N j ≡ h (c - j) 0
   meet j l =
-      let lo = long_out sign in
-      let li = long_into sign in
-      ap (λ w. v (long w) j) (sym lo) ∙ t.north j (omega (arith, li, l)) ∙ ap (slice_index M) (let e : length (into sign) - 1 - j ≡ c - j = omega (arith, li) in e)
-      ∙ sym (t.west (c - j) (omega (arith, lo, l)) ∙ ap (slice_index (reverse M)) (let e : length (out_of sign) - 1 - (c - j) ≡ j = omega (arith, lo, l) in e) ∙ reversed_list M c j long_M l)
+      let lo = long_out in
+      let li = long_into in
+      ap (λ w. v (long w) j) (sym lo) ∙ t.north j (omega (arith, li, l)) ∙ ap (slice_index M) (let e : length into - 1 - j ≡ c - j = omega (arith, li) in e)
+      ∙ sym (t.west (c - j) (omega (arith, lo, l)) ∙ ap (slice_index (reverse M)) (let e : length out - 1 - (c - j) ≡ j = omega (arith, lo, l) in e) ∙ reversed_list M c j long_M l)
 
   abbrev pub L1 : (ℕ → ℕ) → List ℕ
   L1 q = map q (range_with_len 0 N)
@@ -175,13 +171,13 @@ module _ (p : Parameters) (free g k c : ℕ) (sign : Sign) (E W M : List ℕ) (f
   crossing_at = grid_nodes x y v h 0 N N
 
   as_grid : V (X1 ++ R0) ≡ V (crossing_at ++ R0)
-  as_grid = t.same free R0 ok_0 ∙ ap₂ (λ i j. V (crossing_nodes x y v h i j ++ R0)) (long_out sign) (long_into sign)
+  as_grid = t.same free R0 ok_0 ∙ ap₂ (λ i j. V (crossing_nodes x y v h i j ++ R0)) long_out long_into
 
   grid_twice : (z : ℕ) → 1 ≤ times_in (names_of (crossing_at ++ R0)) z → times_in (names_of (crossing_at ++ R0)) z ≡ 2
   grid_twice z one =
       let p1 = times_of-append z crossing_at R0 in
       let p2 = times_of-append z X1 R0 in
-      let e : times_in (names_of X1) z ≡ times_in (names_of crossing_at) z = t.times z ∙ ap₂ (λ i j. times_in (names_of (crossing_nodes x y v h i j)) z) (long_out sign) (long_into sign) in
+      let e : times_in (names_of X1) z ≡ times_in (names_of crossing_at) z = t.times z ∙ ap₂ (λ i j. times_in (names_of (crossing_nodes x y v h i j)) z) long_out long_into in
       let two = twice z (omega (arith, p1, p2, e, one)) in
       omega (arith, p1, p2, e, two)
 
@@ -209,12 +205,12 @@ module _ (p : Parameters) (free g k c : ℕ) (sign : Sign) (E W M : List ℕ) (f
   long_list : (q : ℕ → ℕ) → length (L1 q) ≡ N
   long_list q = length-map-range_with_len q 0 N
 
-  pub into_list : L1 (v 0) ≡ into sign
-  into_list = sym (listed (v 0) (into sign) N (long_into sign) (λ i l. sym (in_at i l)))
+  pub into_list : L1 (v 0) ≡ into
+  into_list = sym (listed (v 0) into N long_into (λ i l. sym (in_at i l)))
 
-  pub leaves_list : L1 leaves ≡ reverse (out_of sign)
+  pub leaves_list : L1 leaves ≡ reverse out
   leaves_list =
-      sym (listed leaves (reverse (out_of sign)) N (length-reverse (out_of sign) ∙ long_out sign) (λ i l. reversed_list (out_of sign) c i (long_out sign) l ∙ sym (out_at (c - i) (omega arith))))
+      sym (listed leaves (reverse out) N (length-reverse out ∙ long_out) (λ i l. reversed_list out c i long_out l ∙ sym (out_at (c - i) (omega arith))))
 
   -- ---- the factor
   factor : (sg : Sign) → (curl_twist p 1 sg ^ N * (crossed a b (is_plus sg) 0).straight ^ (N * c)) % m ≡ curl_twist p N sg % m
@@ -222,31 +218,31 @@ module _ (p : Parameters) (free g k c : ℕ) (sign : Sign) (E W M : List ℕ) (f
   factor signs.Minus = ap (λ i. (curl_twist p 1 signs.Minus ^ i * b ^ (i * c)) % m) (let e : N ≡ c + 1 = omega arith in e) ∙ (curl_factor p c).negative ∙ ap (λ i. curl_twist p i signs.Minus % m) (let e : c + 1 ≡ N = omega arith in e)
 
   -- how often a name stands
-  pub strands_twice : (z : ℕ) → 1 ≤ times_in (into sign) z + times_in (out_of sign) z + times_in (names_of R0) z → times_in (into sign) z + times_in (out_of sign) z + times_in (names_of R0) z ≡ 2
+  pub strands_twice : (z : ℕ) → 1 ≤ times_in into z + times_in out z + times_in (names_of R0) z → times_in into z + times_in out z + times_in (names_of R0) z ≡ 2
   strands_twice z one =
       let q = twists.whole_times a b s c few v h big R0 ok_0 meet low_v low_h low_rest grid_twice z in
-      let e : among (v 0) 0 N z ≡ times_in (into sign) z = ap (λ ns. times_in ns z) into_list in
-      let o : among (λ k. h k N) 0 N z ≡ times_in (out_of sign) z = ap (λ ns. times_in ns z) (sym (listed (λ k. h k N) (out_of sign) N (long_out sign) (λ i l. sym (out_at i l)))) in
+      let e : among (v 0) 0 N z ≡ times_in into z = ap (λ ns. times_in ns z) into_list in
+      let o : among (λ k. h k N) 0 N z ≡ times_in out z = ap (λ ns. times_in ns z) (sym (listed (λ k. h k N) out N long_out (λ i l. sym (out_at i l)))) in
       let p1 = times_of-append z crossing_at R0 in
       let two = grid_twice z (omega (arith, q, e, o, p1, one)) in
       omega (arith, q, e, o, p1, two, one)
 
   -- the twist's new names are past all of these
-  pub low_name : (z : ℕ) → 1 ≤ times_in (into sign) z + times_in (out_of sign) z + times_in (names_of R0) z → z < big
+  pub low_name : (z : ℕ) → 1 ≤ times_in into z + times_in out z + times_in (names_of R0) z → z < big
   low_name z one =
       ⊎_elim
       (λ a.
-      let e : among (v 0) 0 N z ≡ times_in (into sign) z = ap (λ ns. times_in ns z) into_list in
+      let e : among (v 0) 0 N z ≡ times_in into z = ap (λ ns. times_in ns z) into_list in
       let r = found_in_range (v 0) z 0 N (subst (λ n. 1 ≤ n) (sym e) a) in
       subst (λ n. n < big) (sym r.3) (low_v 0 r.0 (omega arith) (within r.0 N r.2)))
       (λ a. ⊎_elim
       (λ b.
-      let e : among leaves 0 N z ≡ times_in (out_of sign) z = ap (λ ns. times_in ns z) leaves_list ∙ times-reverse z (out_of sign) in
+      let e : among leaves 0 N z ≡ times_in out z = ap (λ ns. times_in ns z) leaves_list ∙ times-reverse z out in
       let r = found_in_range leaves z 0 N (subst (λ n. 1 ≤ n) (sym e) b) in
       subst (λ n. n < big) (sym r.3) (low_h (c - r.0) N (under c r.0) (omega arith)))
-      (λ b. low_rest z (member_of_one z (names_of R0) (third_stands (times_in (into sign) z) (times_in (out_of sign) z) (times_in (names_of R0) z) one a b)))
-      (some_or (times_in (out_of sign) z)))
-      (some_or (times_in (into sign) z))
+      (λ b. low_rest z (member_of_one z (names_of R0) (third_stands (times_in into z) (times_in out z) (times_in (names_of R0) z) one a b)))
+      (some_or (times_in out z)))
+      (some_or (times_in into z))
 
   -- THE CURL, WHERE ITS TWIST'S LETTERS ARE FACTORS
   pub curl_counts : (Z : ℕ) → V ((L ++ A) ++ R0) ≡ x ^ count u * Z % m → V (X1 ++ R0) ≡ curl_twist p N sign * Z % m

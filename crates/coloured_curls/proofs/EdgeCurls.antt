@@ -18,7 +18,7 @@ use Rattle.root_quantum.specs.Parameters.{Parameters}
 use Rattle.root_quantum.specs.QuantumNumbers.{inverse_root, loop_value}
 use Rattle.strand_algebra.specs.Projectors.{IsProjector}
 use Rattle.strand_words.specs.Boxes as words
-use Rattle.strand_words.specs.Grids.{row}
+use Rattle.strand_words.specs.Grids.{crossed, row}
 use Rattle.strand_words.specs.Words.{Letter}
 use Rattle.piece_laws.specs.Arcs.{arcs_of}
 use Rattle.pd_reader.specs.declared.item.Item.{Item}
@@ -46,6 +46,7 @@ use Rattle.cable_crossings.proofs.BundleTurns.{runs_exchanged}
 use Rattle.cable_crossings.proofs.CabledBigon.{names_of-ungrouped}
 use Rattle.cable_crossings.proofs.ManyArcs.{arcs_ok}
 use Rattle.cable_crossings.proofs.StepPieces.{All-first, All-second}
+use Rattle.cable_crossings.proofs.ToldCrossings.{IsTold}
 use Rattle.coloured_moves.proofs.ColouredSlides.{boxed_projector}
 use Rattle.coloured_moves.proofs.CurledCables as cables
 use Rattle.coloured_moves.proofs.CurledStrands.{curl_twist}
@@ -68,64 +69,8 @@ use Rattle.coloured_curls.proofs.LetterSteps.{AreStubs, weight}
 use Rattle.coloured_curls.proofs.LetterWalks.{AllFree, IsFree, along_component, boxed_label}
 use Rattle.coloured_curls.proofs.LetterWords.{AreLetters, are_among, word_counts}
 use Rattle.coloured_curls.proofs.RenumberedLetters.{arcs_times, letters_ok}
+use Rattle.coloured_curls.proofs.StubWords.{twist_letters, short_twist, boxes_none, loops_none}
 use Rattle.coloured_curls.proofs.EdgeComponents as parts
-
--- ---- a twist's letters
-letters-append : (p : Parameters) (t : Bool) (n : ℕ) (u w : List Letter) → AreLetters p t n u → AreLetters p t n w → AreLetters p t n (u ++ w)
-letters-append p t n [] w a b = b
-letters-append p t n (l ∷ u) w a b = (a.0, a.1, a.2, letters-append p t n u w a.3 b)
-
-row_letters : (p : Parameters) (t : Bool) (n i k : ℕ) → i + k < n → AreLetters p t n (row p.root (inverse_root p) t i k)
-row_letters p t n i zero l = tt
-row_letters p t n i (suc k) l = (omega (arith, l), refl, refl, row_letters p t n (i + 1) k (omega (arith, l)))
-
-twist_letters : (p : Parameters) (t : Bool) (n i k turns : ℕ) → i + k < n → AreLetters p t n (words.twist p.root (inverse_root p) t i k turns)
-twist_letters p t n i k zero l = tt
-twist_letters p t n i k (suc turns) l = letters-append p t n (row p.root (inverse_root p) t i k) (words.twist p.root (inverse_root p) t i k turns) (row_letters p t n i k l) (twist_letters p t n i k turns l)
-
-count_length : (u : List Letter) → length u ≡ count u
-count_length [] = refl
-count_length (l ∷ u) = let ih = count_length u in omega (arith, ih)
-
-few_letters : (c : ℕ) → suc c ≤ 8 → suc c * c ≤ 56
-few_letters zero l = omega arith
-few_letters (suc zero) l = omega arith
-few_letters (suc (suc zero)) l = omega arith
-few_letters (suc (suc (suc zero))) l = omega arith
-few_letters (suc (suc (suc (suc zero)))) l = omega arith
-few_letters (suc (suc (suc (suc (suc zero))))) l = omega arith
-few_letters (suc (suc (suc (suc (suc (suc zero)))))) l = omega arith
-few_letters (suc (suc (suc (suc (suc (suc (suc zero))))))) l = omega arith
-few_letters (suc (suc (suc (suc (suc (suc (suc (suc c)))))))) l = absurd (omega (arith, l))
-
--- ---- names of boxes and loops
-boxes_none : (S : Strands) (ls : List ℕ) (z : ℕ) → ((l : ℕ) → 1 ≤ times_in ls l → (times_in (S.first l) z ≡ 0) × (times_in (S.second l) z ≡ 0)) → times_in (names_of (boxes_of S ls)) z ≡ 0
-boxes_none S [] z h = refl
-boxes_none S (l ∷ ls) z h =
-    let o = h l (stubs.own_time l ls) in
-    let o0 = o.0 in
-    let o1 = o.1 in
-    let a = times_in-append (S.first l ++ S.second l) (names_of (boxes_of S ls)) z in
-    let b = times_in-append (S.first l) (S.second l) z in
-    let ih = boxes_none S ls z (λ k one. h k (stubs.later_time l ls k one)) in
-    omega (arith, a, b, ih, o0, o1)
-
-loop_none : (S : Strands) (xs : List ℕ) (z : ℕ) → times_in xs z ≡ 0 → times_in (names_of (loop_nodes S 0 xs)) z ≡ 0
-loop_none S [] z h = refl
-loop_none S (x ∷ []) z h = refl
-loop_none S (x ∷ y ∷ xs) z h =
-    let ns = x ∷ y ∷ xs in
-    let a = times_in-append (ns ++ reverse ns) [] z in
-    let b = times_in-append ns (reverse ns) z in
-    let r = times-reverse z ns in
-    omega (arith, a, b, r, h)
-
-loops_none : (S : Strands) (ls : List ℕ) (z : ℕ) → ((l : ℕ) → 1 ≤ times_in ls l → times_in (S.first l) z ≡ 0) → loop_sum S ls z ≡ 0
-loops_none S [] z h = refl
-loops_none S (l ∷ ls) z h =
-    let a = loop_none S (S.first l) z (h l (stubs.own_time l ls)) in
-    let ih = loops_none S ls z (λ k one. h k (stubs.later_time l ls k one)) in
-    omega (arith, a, ih)
 
 -- ---- diagrams
 module _ (p : Parameters) (items : List Item) (pd : IsPairedDiagram items) (e : ℕ) (has_e : is_member ◌==◌ (crossing_labels items) e ≡ true) (sign : Sign) (colours : List ℕ) (room : fresh items + 3 ≤ 2000000)
@@ -381,10 +326,19 @@ module _ (p : Parameters) (items : List Item) (pd : IsPairedDiagram items) (e : 
     twice = cables.all_twice p items pd e has_e sign colours room after_is has
 
     abbrev into : List ℕ
-    into = curls.into p free g i k sign E W M few_k long_E long_W long_M CR ok_X1 ok_CR twice sign
+    into = curls.strands_in sign E W
 
     abbrev out : List ℕ
-    out = curls.out_of p free g i k sign E W M few_k long_E long_W long_M CR ok_X1 ok_CR twice sign
+    out = curls.strands_out sign E W
+
+    long_into : length into ≡ suc k
+    long_into = curls.long_strands_in (suc k) sign E W long_E long_W
+
+    long_out : length out ≡ suc k
+    long_out = curls.long_strands_out (suc k) sign E W long_E long_W
+
+    is_told : IsTold p.modulus (loop_value p) X1 (crossed p.root (inverse_root p) (is_plus sign) 0).straight (crossed p.root (inverse_root p) (is_plus sign) 0).hook into out M (reverse M)
+    is_told = curls.told_curl p g i k sign E W M long_E long_W long_M ok_X1
 
     abbrev Ys : List ℕ
     Ys = reverse out
@@ -399,22 +353,16 @@ module _ (p : Parameters) (items : List Item) (pd : IsPairedDiagram items) (e : 
     side_second : (sg : Sign) → S.second (side sg) ≡ reverse (at_stub S (2 * side sg))
     side_second sg = sym (stubs.at_high p R new after_is sizes_R colours has (side sg)) ∙ stubs.plain_stubs p R new after_is sizes_R colours has (side sg) (side_free sg)
 
-    into_side : (sg : Sign) → curls.into p free g i k sign E W M few_k long_E long_W long_M CR ok_X1 ok_CR twice sg ≡ S.second (side sg)
+    into_side : (sg : Sign) → curls.strands_in sg E W ≡ S.second (side sg)
     into_side signs.Plus = refl
     into_side signs.Minus = refl
 
-    out_side : (sg : Sign) → curls.out_of p free g i k sign E W M few_k long_E long_W long_M CR ok_X1 ok_CR twice sg ≡ S.second (other sg)
+    out_side : (sg : Sign) → curls.strands_out sg E W ≡ S.second (other sg)
     out_side signs.Plus = refl
     out_side signs.Minus = refl
 
     into_is : into ≡ reverse A
     into_is = into_side sign ∙ side_second sign
-
-    long_into : length into ≡ suc k
-    long_into = curls.long_into p free g i k sign E W M few_k long_E long_W long_M CR ok_X1 ok_CR twice sign
-
-    long_out : length out ≡ suc k
-    long_out = curls.long_out p free g i k sign E W M few_k long_E long_W long_M CR ok_X1 ok_CR twice sign
 
     long_A : length A ≡ suc k
     long_A = sym (length-reverse A) ∙ sym (ap length into_is) ∙ long_into
@@ -450,7 +398,7 @@ module _ (p : Parameters) (items : List Item) (pd : IsPairedDiagram items) (e : 
       loops = stubs.loops p R new after_is sizes_R colours has;
       twice = λ z one.
           let q = K0_count z in
-          let two = curls.strands_twice p free g i k sign E W M few_k long_E long_W long_M CR ok_X1 ok_CR twice z (omega (arith, q, one)) in
+          let two = curls.strands_twice p free k sign into out M few_k long_into long_out long_M X1 CR is_told ok_CR twice z (omega (arith, q, one)) in
           omega (arith, q, two);
     }
 
@@ -496,10 +444,10 @@ module _ (p : Parameters) (items : List Item) (pd : IsPairedDiagram items) (e : 
     u = words.twist p.root (inverse_root p) (is_plus sign) 0 k (suc k)
 
     abbrev v0 : ℕ → ℕ
-    v0 = curls.v p free g i k sign E W M few_k long_E long_W long_M CR ok_X1 ok_CR twice 0
+    v0 = curls.v p free k sign into out M few_k long_into long_out long_M X1 CR is_told ok_CR twice 0
 
     abbrev big : ℕ
-    big = curls.big p free g i k sign E W M few_k long_E long_W long_M CR ok_X1 ok_CR twice
+    big = curls.big p free k sign into out M few_k long_into long_out long_M X1 CR is_told ok_CR twice
 
     abbrev H : ℕ
     H = 16 * 2000001
@@ -508,34 +456,30 @@ module _ (p : Parameters) (items : List Item) (pd : IsPairedDiagram items) (e : 
     letters_u = subst (λ n. AreLetters p (is_plus sign) n u) (sym long_A) (twist_letters p (is_plus sign) (suc k) 0 k (suc k) (omega arith))
 
     short_u : 2 * length u ≤ 112
-    short_u =
-        let a = count_length u in
-        let b = twist_count p.root (inverse_root p) (is_plus sign) 0 k (suc k) in
-        let d = few_letters k few_k in
-        omega (arith, a, b, d)
+    short_u = short_twist p (is_plus sign) k few_k
 
     strands_same : (j : ℕ) → j < length A → v0 j ≡ slice_index A (length A - 1 - j)
     strands_same j l =
-        curls.in_at p free g i k sign E W M few_k long_E long_W long_M CR ok_X1 ok_CR twice j (let q = long_A in omega (arith, q, l))
+        curls.in_at p free k sign into out M few_k long_into long_out long_M X1 CR is_told ok_CR twice j (let q = long_A in omega (arith, q, l))
         ∙ ap (λ xs. slice_index xs j) into_is ∙ get_or-reverse A j 0 l
 
     into_among : (z : ℕ) → among v0 0 (length A) z ≡ times_in into z
     into_among z =
         ap (λ n. among v0 0 n z) long_A
-        ∙ ap (λ xs. times_in xs z) (curls.into_list p free g i k sign E W M few_k long_E long_W long_M CR ok_X1 ok_CR twice)
+        ∙ ap (λ xs. times_in xs z) (curls.into_list p free k sign into out M few_k long_into long_out long_M X1 CR is_told ok_CR twice)
 
     below_big : (z : ℕ) → 1 ≤ times_in into z + times_in out z + times_in (names_of CR) z → z < big
     below_big z one =
-        curls.low_name p free g i k sign E W M few_k long_E long_W long_M CR ok_X1 ok_CR twice z one
+        curls.low_name p free k sign into out M few_k long_into long_out long_M X1 CR is_told ok_CR twice z one
 
     abbrev LA : List Node
     LA = letter_nodes u v0 big ++ arcs_of (zip (map (names_behind u v0 big) (range_with_len 0 (length A))) Ys)
 
-    told : curls.L p free g i k sign E W M few_k long_E long_W long_M CR ok_X1 ok_CR twice ++ curls.A p free g i k sign E W M few_k long_E long_W long_M CR ok_X1 ok_CR twice ≡ LA
+    told : curls.L p free k sign into out M few_k long_into long_out long_M X1 CR is_told ok_CR twice ++ curls.A p free k sign into out M few_k long_into long_out long_M X1 CR is_told ok_CR twice ≡ LA
     told =
         ap (λ ns. letter_nodes u v0 big ++ ns)
-        (curls.A_is p free g i k sign E W M few_k long_E long_W long_M CR ok_X1 ok_CR twice
-        ∙ ap (λ ys. arcs_of (zip (map (names_behind u v0 big) (range_with_len 0 (suc k))) ys)) (curls.leaves_list p free g i k sign E W M few_k long_E long_W long_M CR ok_X1 ok_CR twice)
+        (curls.A_is p free k sign into out M few_k long_into long_out long_M X1 CR is_told ok_CR twice
+        ∙ ap (λ ys. arcs_of (zip (map (names_behind u v0 big) (range_with_len 0 (suc k))) ys)) (curls.leaves_list p free k sign into out M few_k long_into long_out long_M X1 CR is_told ok_CR twice)
         ∙ ap (λ n. arcs_of (zip (map (names_behind u v0 big) (range_with_len 0 n)) Ys)) (sym long_A))
 
     abbrev Z : ℕ
@@ -568,14 +512,14 @@ module _ (p : Parameters) (items : List Item) (pd : IsPairedDiagram items) (e : 
         ∙ ap (zip (second_names c (is_boxed after colours e) e)) (reverse-reverse (first_names c v))
     arcs_are signs.Minus = ap₂ (λ xs ys. zip xs (reverse ys)) (cables.second_v p items pd e has_e sign colours room after_is has) (cables.second_e p items pd e has_e sign colours room after_is has)
 
-    pairs_are : (sg : Sign) → zip (curls.into p free g i k sign E W M few_k long_E long_W long_M CR ok_X1 ok_CR twice sg) (reverse (curls.out_of p free g i k sign E W M few_k long_E long_W long_M CR ok_X1 ok_CR twice sg)) ≡ curl_pairs sg E W
+    pairs_are : (sg : Sign) → zip (curls.strands_in sg E W) (reverse (curls.strands_out sg E W)) ≡ curl_pairs sg E W
     pairs_are signs.Plus = refl
     pairs_are signs.Minus = refl
 
     pub tall_edge : coloured p after colours ≡ curl_twist p c sign * coloured p items colours % p.modulus
     tall_edge =
         cables.curled_coloured p items pd e has_e sign colours room after_is has (curl_twist p c sign) (is_plus sign)
-        (curls.curl_counts p free g i k sign E W M few_k long_E long_W long_M CR ok_X1 ok_CR twice Z (ap (λ ns. V (ns ++ CR)) told ∙ absorbed)
+        (curls.curl_counts p free k sign into out M few_k long_into long_out long_M X1 CR is_told ok_CR twice Z (ap (λ ns. V (ns ++ CR)) told ∙ absorbed)
         ∙ ap₂ (λ j ps. curl_twist p j sign * V (arcs_of ps ++ CR) % p.modulus) (sym tall_k) (pairs_are sign ∙ arcs_are sign))
 
   -- A CURL ON AN EDGE WITHOUT A BOX

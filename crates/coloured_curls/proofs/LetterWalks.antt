@@ -126,7 +126,7 @@ module _ (p : Parameters) (free : ℕ) (t : Bool) (S : Strands) (K : List Node) 
         (λ e. (let g = subst F e.0 f in let s = subst G e.0 h in ((λ o. to_first (half w) plain o s g), (λ o. g))))
         (even_or_odd w)
 
-    at_label : (w : ℕ) → Stands w → AllFree (half w) → IsFree D w
+    pub at_label : (w : ℕ) → Stands w → AllFree (half w) → IsFree D w
     at_label w h all =
         let F : ℕ → Type 0 = λ i. IsFree D i in
         let G : ℕ → Type 0 = λ i. Stands i in

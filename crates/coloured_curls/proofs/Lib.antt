@@ -19,8 +19,10 @@ pub mod SwappedNames
 pub mod EdgeLetters
 pub mod EdgeSteps
 pub mod BoxSteps
+pub mod StubWords
 pub mod UndoneBundles
 pub mod UncurledWalks
+pub mod UndoneWalks
 pub mod LetterWalks
 pub mod RenumberedLetters
 pub mod LetterWords

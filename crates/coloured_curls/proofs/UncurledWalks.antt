@@ -22,7 +22,7 @@ use Rattle.diagram_moves.specs.Rewriting.{slot, around, crossing_at, crossing_la
 use Rattle.diagram_moves.proofs.Corners.{one_times}
 use Rattle.diagram_moves.proofs.Paired.{paired}
 use Rattle.diagram_moves.proofs.KeptStrands.{kept_strands}
-use Rattle.move_results.proofs.ClosedComponents.{kept_all, strand_picked}
+use Rattle.move_results.proofs.ClosedComponents.{kept_all, stays_within, strand_picked}
 use Rattle.coloured_moves.proofs.DroppedCrossings.{dropped}
 use Rattle.coloured_moves.proofs.PulledStubs.{crossing_labels-dropped}
 use Rattle.coloured_moves.proofs.StubNames.{kept_stubs-kept}
@@ -39,12 +39,13 @@ kept_dropped gone n (item.X ws ∷ rest) =
     ap (λ es. cond (is_member ◌==◌ gone n) es (item_strands (item.X ws) ++ es)) (kept_dropped gone (n + 1) rest)
     ∙ elim (is_member ◌==◌ gone n) as (λ b. cond b (strand_edges later) (item_strands (item.X ws) ++ strand_edges later) ≡ strand_edges (cond b [] (item.X ws ∷ []) ++ later)) [ true ↦ refl | false ↦ refl ]
 
-pub sizes-dropped : (gone : List ℕ) (n : ℕ) (items : List Item) → AllByRecursion HasItsSlots items → AllByRecursion HasItsSlots (dropped gone n items)
-sizes-dropped gone n [] h = tt
-sizes-dropped gone n (item.Loop l ∷ rest) h = (tt, sizes-dropped gone n rest h.1)
-sizes-dropped gone n (item.X ws ∷ rest) h =
-    let ih = sizes-dropped gone (n + 1) rest h.1 in
-    elim (is_member ◌==◌ gone n) as (λ b. AllByRecursion HasItsSlots (cond b [] (item.X ws ∷ []) ++ dropped gone (n + 1) rest)) [ true ↦ ih | false ↦ (h.0, ih) ]
+-- what holds of each item holds of those that stay
+pub each_dropped : (P : Item → Type 0) (gone : List ℕ) (n : ℕ) (items : List Item) → AllByRecursion P items → AllByRecursion P (dropped gone n items)
+each_dropped P gone n [] h = tt
+each_dropped P gone n (item.Loop l ∷ rest) h = (h.0, each_dropped P gone n rest h.1)
+each_dropped P gone n (item.X ws ∷ rest) h =
+    let ih = each_dropped P gone (n + 1) rest h.1 in
+    elim (is_member ◌==◌ gone n) as (λ b. AllByRecursion P (cond b [] (item.X ws ∷ []) ++ dropped gone (n + 1) rest)) [ true ↦ ih | false ↦ (h.0, ih) ]
 
 -- the two strands of a crossing, told from one of its slots
 corners : (Q : ℕ → ℕ → Type 0) → ((y z : ℕ) → Q y z → Q z y) → (ws : List ℕ) (s : ℕ) → s < 4 → Q (slot ws s) (slot ws (s + 2)) → Q (slot ws (s + 1)) (slot ws (s + 3)) →
@@ -84,7 +85,7 @@ module _ (items : List Item) (pd : IsPairedDiagram items) (c : ℕ) (here : List
   rs = crossing_labels R
 
   pub sizes_R : AllByRecursion HasItsSlots R
-  sizes_R = sizes-dropped (c ∷ []) 1 items pd.sizes
+  sizes_R = each_dropped HasItsSlots (c ∷ []) 1 items pd.sizes
 
   shared : slot here (s + 1) ≡ x
   shared = sym (eqb-true (slot here s) (slot here (s + 1)) test)
@@ -149,7 +150,7 @@ module _ (items : List Item) (pd : IsPairedDiagram items) (c : ℕ) (here : List
   abbrev pub to : ℕ → ℕ
   to z = cond (z == x) a z
 
-  to_x : to x ≡ a
+  pub to_x : to x ≡ a
   to_x = ap (λ t. cond t a x) (eq-eqb x x refl)
 
   pub to_other : (z : ℕ) → z ≢ x → to z ≡ z
@@ -199,3 +200,12 @@ module _ (items : List Item) (pd : IsPairedDiagram items) (c : ℕ) (here : List
   still_joined stay = stay
   still_joined (back j) = back (still_joined j)
   still_joined (on i j) = on (still_joined i) (still_joined j)
+
+  -- and nothing else
+  pub joined_before : {y z : ℕ} → Joined (strand_edges R) y z → Joined (strand_edges items) y z
+  joined_before (along {x = y} {y = z} w) =
+      let P : List (ℕ × ℕ) → Type 0 = λ fs. Contains fs (y, z) in
+      along (stays_within (c ∷ []) 1 items (y, z) (subst P (sym (kept_dropped (c ∷ []) 1 items)) w))
+  joined_before stay = stay
+  joined_before (back j) = back (joined_before j)
+  joined_before (on i j) = on (joined_before i) (joined_before j)

@@ -313,6 +313,9 @@ module _ (p : Parameters) (colour : ℕ → ℕ) (boxed : ℕ → Bool) (box : �
     pub low_name : (z : ℕ) → z < 2 ^ 25 → old_name z ≡ z
     low_name z l = name_low before z l
 
+    pub high_name : (z : ℕ) → 2 ^ 25 ≤ z → 2 ^ 25 ≤ old_name z
+    high_name z l = let q = name_high before z l in omega (arith, q)
+
     apart : (x y : ℕ) → old_name x ≡ old_name y → x ≡ y
     apart x y e = name_apart before (λ k l q. before_order gone 1 0 0 items k l (omega arith) (omega arith) q) x y e
 
@@ -340,24 +343,25 @@ module _ (p : Parameters) (colour : ℕ → ℕ) (boxed : ℕ → Bool) (box : �
         sym (any_names modulus delta free old_name (nodes ++ new) ok (λ x y mx my e. apart x y e))
         ∙ (groups delta free (rename old_name (nodes ++ new)) (nodes ++ old) same).values modulus
 
+  -- names of boxes are those of strands
+  pub boxes_low : (ls : List ℕ) → AllByRecursion (λ l. l ≤ 2000000) ls → (z : ℕ) → is_member ◌==◌ (names_of (boxes_of S ls)) z ≡ true → z < 2 ^ 25
+  boxes_low [] h z m = absurd (grind (arith, m))
+  boxes_low (l ∷ ls) h z m =
+      let one = times_of_member z (names_of (boxes_of S (l ∷ ls))) m in
+      let a = times_in-append (S.first l ++ S.second l) (names_of (boxes_of S ls)) z in
+      let b = times_in-append (S.first l) (S.second l) z in
+      ⊎_elim
+      (λ (n : times_in (S.first l) z ≡ 0).
+      ⊎_elim
+      (λ (k : times_in (S.second l) z ≡ 0). boxes_low ls h.1 z (member_of_times z (names_of (boxes_of S ls)) (omega (arith, one, a, b, n, k))))
+      (λ k. (let k1 = k.1 in second_low l h.0 z (omega (arith, k1))))
+      (zero_or_some (times_in (S.second l) z)))
+      (λ n. (let n1 = n.1 in first_low l h.0 z (omega (arith, n1))))
+      (zero_or_some (times_in (S.first l) z))
+
   -- CROSSINGS LEFT OUT BESIDE BOXES
   pub dropped_value : (modulus delta free lg lh : ℕ) (ls : List ℕ) (items : List Item) → AllByRecursion (λ l. l ≤ 2000000) ls → AllByRecursion (Straight S) items → ((w : ℕ) → is_member ◌==◌ (kept_stubs gone 1 items) w ≡ true → half w ≤ 2000000) →
       ((l : ℕ) → is_member ◌==◌ (loop_labels items) l ≡ true → l ≤ 2000000) → All IsNode (boxes_of S ls ++ stub_nodes p S [] 1 1 0 lg (dropped gone 1 items)) →
       value modulus delta record { nodes = boxes_of S ls ++ stub_nodes p S [] 1 1 0 lg (dropped gone 1 items); free_loops = free }
       ≡ value modulus delta record { nodes = boxes_of S ls ++ stub_nodes p S gone 1 1 0 lh items; free_loops = free }
   dropped_value modulus delta free lg lh ls items small st at_stubs at_loops ok = dropped_beside lg lh items st at_stubs at_loops modulus delta free (boxes_of S ls) (boxes_low ls small) ok
-    where
-      boxes_low : (ls : List ℕ) → AllByRecursion (λ l. l ≤ 2000000) ls → (z : ℕ) → is_member ◌==◌ (names_of (boxes_of S ls)) z ≡ true → z < 2 ^ 25
-      boxes_low [] h z m = absurd (grind (arith, m))
-      boxes_low (l ∷ ls) h z m =
-          let one = times_of_member z (names_of (boxes_of S (l ∷ ls))) m in
-          let a = times_in-append (S.first l ++ S.second l) (names_of (boxes_of S ls)) z in
-          let b = times_in-append (S.first l) (S.second l) z in
-          ⊎_elim
-          (λ (n : times_in (S.first l) z ≡ 0).
-          ⊎_elim
-          (λ (k : times_in (S.second l) z ≡ 0). boxes_low ls h.1 z (member_of_times z (names_of (boxes_of S ls)) (omega (arith, one, a, b, n, k))))
-          (λ k. (let k1 = k.1 in second_low l h.0 z (omega (arith, k1))))
-          (zero_or_some (times_in (S.second l) z)))
-          (λ n. (let n1 = n.1 in first_low l h.0 z (omega (arith, n1))))
-          (zero_or_some (times_in (S.first l) z))
