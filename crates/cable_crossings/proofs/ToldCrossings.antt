@@ -27,7 +27,7 @@ use Rattle.cable_crossings.proofs.CrossingSteps.{long, between, crossing_nodes, 
 use Rattle.cable_crossings.proofs.ThroughArcs.{through_arcs, turned_arcs}
 
 -- ---- pairs that are listed from the other end, and turned
-ranged : (f : ℕ → ℕ) (n k : ℕ) → k < n → slice_index (map f (range_with_len 0 n)) k ≡ f k
+pub ranged : (f : ℕ → ℕ) (n k : ℕ) → k < n → slice_index (map f (range_with_len 0 n)) k ≡ f k
 ranged f n k l = let z : 0 + k ≡ k = omega arith in get_or-map-range_with_len f 0 n k k 0 l z
 
 reversed_range : (f : ℕ → ℕ) (n : ℕ) → reverse (map f (range_with_len 0 n)) ≡ map (λ i. f (n - 1 - i)) (range_with_len 0 n)
@@ -42,7 +42,7 @@ reversed_range f n =
     let l : k < n = omega (arith, b, lr, lx) in
     get_or-reverse xs k 0 (omega (arith, l, lx)) ∙ ap (λ i. slice_index xs (i - 1 - k)) lx ∙ ranged f n (n - 1 - k) (omega (arith, l)) ∙ sym (ranged g n k l))
 
-listed : (f : ℕ → ℕ) (xs : List ℕ) (n : ℕ) → length xs ≡ n → ((i : ℕ) → i < n → slice_index xs i ≡ f i) → xs ≡ map f (range_with_len 0 n)
+pub listed : (f : ℕ → ℕ) (xs : List ℕ) (n : ℕ) → length xs ≡ n → ((i : ℕ) → i < n → slice_index xs i ≡ f i) → xs ≡ map f (range_with_len 0 n)
 listed f xs n l h =
     let ly = length-map-range_with_len f 0 n in
     ext_get_or 0 xs (map f (range_with_len 0 n)) (l ∙ sym ly) (λ k b. (let c : k < n = omega (arith, b, l) in h k c ∙ sym (ranged f n k c)))

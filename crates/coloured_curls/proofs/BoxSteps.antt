@@ -25,7 +25,8 @@ use Rattle.cable_crossings.proofs.BundleTurns.{runs_exchanged}
 use Rattle.coloured_moves.proofs.StubItems.{half, at_stub, stub_nodes}
 use Rattle.coloured_curls.specs.Boxes.{box_at, behind}
 use Rattle.coloured_curls.proofs.AbsorbedTwists.{told_backwards}
-use Rattle.coloured_curls.proofs.BoxedCurls.{listed, box_lists}
+use Rattle.cable_crossings.proofs.ToldCrossings.{listed}
+use Rattle.coloured_curls.proofs.BoxedCurls.{box_lists}
 use Rattle.coloured_curls.proofs.BoxedLetters.{boxed_letter}
 use Rattle.coloured_curls.proofs.EdgeLetters as letters
 use Rattle.coloured_curls.proofs.EdgeLetters.{AreNumbered, IsHigh}

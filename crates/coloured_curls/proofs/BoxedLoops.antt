@@ -63,7 +63,7 @@ use Rattle.coloured_moves.proofs.SameComponents.{contracted_boxed, contracted_co
 use Rattle.coloured_moves.proofs.StubItems.{half, at_stub, at_stub_is, stub_crossing, first_labels, first_labels_times}
 use Rattle.coloured_moves.proofs.Tests.{clash, one_if}
 use Rattle.coloured_moves.proofs.TurnedBoxes.{names_permuted}
-use Rattle.coloured_curls.proofs.BoxedCurls.{before, beside_box, box_merged}
+use Rattle.coloured_curls.proofs.BoxedCurls.{before_curl, beside_box, box_merged}
 use Rattle.coloured_curls.proofs.LoopNodes.{common, nodes_before, nodes_behind}
 
 abbrev U : List Node → List Node
@@ -400,7 +400,7 @@ module _ (p : Parameters) (items : List Item) (pd : IsPairedDiagram items) (e : 
         ∙ box_merged p.modulus (loop_value p) free 0 f E F (reverse E) Q (long_F ∙ sym (length-reverse E ∙ long_E)) ok_back
         (λ z one. (
         let r = times-reverse z E in
-        let two = before p free 0 behind.0 k sign E F M F 0 few_k (long_E ∙ tall) (long_F ∙ tall) (long_M ∙ tall) (long_F ∙ tall) f is_projector Q ok_X1 ok_Q curl_twice z (omega (arith, r, one)) in
+        let two = before_curl p free 0 behind.0 k sign E F M F 0 few_k (long_E ∙ tall) (long_F ∙ tall) (long_M ∙ tall) (long_F ∙ tall) f is_projector Q ok_X1 ok_Q curl_twice z (omega (arith, r, one)) in
         omega (arith, r, two)))
         ∙ loop_before
 

@@ -28,13 +28,13 @@ use Rattle.word_networks.specs.GridNetworks.{grid_nodes}
 use Rattle.diagram_moves.proofs.Curling.{is_plus}
 use Rattle.cables.proofs.NameCounts.{times_of-append, times-reverse}
 use Rattle.cable_crossings.proofs.CrossingSteps.{crossing_nodes, long}
-use Rattle.cable_crossings.proofs.ToldCrossings.{IsTold, told, told_from}
+use Rattle.cable_crossings.proofs.ToldCrossings.{IsTold, listed, told, told_from}
 use Rattle.coloured_moves.proofs.CurledStrands.{curl_cable, curl_twist, condition}
 use Rattle.coloured_curls.specs.Boxes.{letter_nodes, names_behind, arcs_between}
 use Rattle.cable_crossings.proofs.StepPieces.{member_of_one}
 use Rattle.coloured_curls.proofs.PieceCounts.{found_in_range}
 use Rattle.coloured_curls.proofs.AbsorbedTwists.{count, twist_count}
-use Rattle.coloured_curls.proofs.BoxedCurls.{listed, reversed_list, between_lists}
+use Rattle.coloured_curls.proofs.StrandLists.{reversed_list, between_lists}
 use Rattle.coloured_curls.proofs.ClosedTwists as twists
 use Rattle.coloured_curls.proofs.GridCounts.{among}
 
@@ -198,6 +198,10 @@ module _ (p : Parameters) (free c : ℕ) (sign : Sign) (into out M : List ℕ) (
 
   pub turned_value : V (crossing_at ++ R0) ≡ curl_twist p 1 sign ^ N * V ((L ++ A) ++ R0) % m
   turned_value = twists.closed_twist a b s c few v h big R0 ok_0 meet low_v low_h low_rest grid_twice m delta free (curl_twist p 1 sign) (skein_numbers p).skein (condition p sign)
+
+  -- there, too, each name stands twice
+  pub turned_twice : (z : ℕ) → 1 ≤ times_in (names_of (L ++ A)) z + times_in (names_of R0) z → times_in (names_of (L ++ A)) z + times_in (names_of R0) z ≡ 2
+  turned_twice z one = twists.turned_twice a b s c few v h big R0 ok_0 meet low_v low_h low_rest grid_twice z one
 
   pub A_is : A ≡ arcs_of (zip (L1 T) (L1 leaves))
   A_is = ap arcs_of (between_lists T leaves 0 N)

@@ -31,7 +31,7 @@ use Rattle.cable_crossings.proofs.StepPieces.{All-first}
 use Rattle.coloured_moves.proofs.StubItems.{half, at_stub, stub_nodes}
 use Rattle.coloured_curls.specs.Boxes.{behind, letter_nodes, names_behind}
 use Rattle.coloured_curls.proofs.AbsorbedTwists.{count, once}
-use Rattle.coloured_curls.proofs.BoxedCurls.{listed}
+use Rattle.cable_crossings.proofs.ToldCrossings.{listed}
 use Rattle.coloured_curls.proofs.EdgeLetters as letters
 use Rattle.coloured_curls.proofs.EdgeLetters.{AreNumbered, IsHigh}
 use Rattle.coloured_curls.proofs.EdgeSteps.{changed_ok, put_first}

@@ -7,6 +7,7 @@ pub mod ClosedGrids
 pub mod LetterCounts
 pub mod ClosedTwists
 pub mod AbsorbedTwists
+pub mod StrandLists
 pub mod BoxedCurls
 pub mod BoxedEdges
 pub mod LoopNodes
