@@ -24,6 +24,7 @@ pub mod StubWords
 pub mod UndoneBundles
 pub mod UncurledWalks
 pub mod UndoneWalks
+pub mod UndoneCurls
 pub mod LetterWalks
 pub mod RenumberedLetters
 pub mod LetterWords
