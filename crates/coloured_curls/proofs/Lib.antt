@@ -37,5 +37,6 @@ pub mod CutWalks
 pub mod SlidLetters
 pub mod CurledBoxes
 pub mod AllCurls
+pub mod AllUndos
 mod Examples
 pub mod CurlLaws

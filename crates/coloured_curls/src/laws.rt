@@ -1,6 +1,6 @@
 //! The laws of curls of cables: each function has an empty body, and its contract is the law. They are stated in `specs/Laws.antt`.
 
-ghost use Rattle.coloured_curls.specs.Laws.{BoxedCrossingLaw, ClosedCrossingLaw, CurlBesideBoxLaw, BoxedEdgeLaw, BoxedLoopLaw, BoxlessEdgeLaw, CurlLaw};
+ghost use Rattle.coloured_curls.specs.Laws.{BoxedCrossingLaw, ClosedCrossingLaw, CurlBesideBoxLaw, BoxedEdgeLaw, BoxedLoopLaw, BoxlessEdgeLaw, CurlLaw, CurlUndoLaw};
 
 /// A crossing of two neighbouring strands beside a projector's box is a factor, its weight of going straight on; the box then has the
 /// names behind the crossing (Lickorish, ch. 13).
@@ -39,4 +39,10 @@ pub fn boxless_edge()
 /// `Curl` on any edge or Loop of a component of colour n, from 0 to 8, multiplies the coloured value by `mu_n`, or by its inverse for the sign `-`.
 pub fn curl()
     ensures { CurlLaw }
+{}
+
+/// `CurlUndo` of a curl on a component of colour n, from 0 to 8, multiplies the coloured value by the inverse of what the curl did, where no box
+/// lies inside the curl.
+pub fn curl_undo()
+    ensures { CurlUndoLaw }
 {}

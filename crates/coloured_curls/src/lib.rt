@@ -8,4 +8,5 @@ mod laws;
 
 pub use laws::{
     boxed_crossing, boxed_edge, boxed_loop, boxless_edge, closed_crossing, curl, curl_beside_box,
+    curl_undo,
 };
