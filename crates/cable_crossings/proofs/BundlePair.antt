@@ -1,7 +1,6 @@
 -- Two bundles that cross and cross back, told from any of the slots of both crossings, and each of which may be empty: they are arcs.
 -- Strand i of a bundle has at its m-th edge, counted from below, the number 8 (32 i + m), and 1 more in the second bundle.
-use Rattle.std.proofs.Common.{◌≡◌, ◌≢◌, ℕ, zero, suc, ◌+◌, ◌-◌, ◌/◌, ◌%◌, ◌<◌, ◌≤◌, ◌==◌, ◌⊎◌, inl, inr, nat_lt, nat_le, not, Bool, true, false, if◌then◌else◌, cond, List, [], ◌++◌, map, refl, sym, ap, ap₂, ◌∙◌, arith, ⊎_elim, All, subst, append-nil}
-use Rattle.std.proofs.lemmas.Bool.Decides.{nat_tests}
+use Rattle.std.proofs.Common.{◌≡◌, ◌≢◌, ℕ, ◌+◌, ◌-◌, ◌<◌, ◌≤◌, ◌==◌, inl, inr, nat_lt, nat_le, not, Bool, if◌then◌else◌, cond, List, [], ◌++◌, map, sym, ap, ap₂, ◌∙◌, arith, ⊎_elim, All, subst, append-nil}
 use Rattle.state_sums.specs.LocalSums.{rename, AreSkeinNumbers}
 use Rattle.state_sums.specs.Networks.{Node, IsNode, names_of}
 use Rattle.state_sums.specs.StateSums.{value}
@@ -15,15 +14,15 @@ use Rattle.word_networks.specs.GridNetworks.{FitsGrid}
 use Rattle.word_networks.specs.PlacedGrids.{passes}
 use Rattle.word_networks.specs.Spelling.{AgreeOn, Spells}
 use Rattle.word_networks.specs.Steps.{Step, names_after, step_nodes}
-use Rattle.word_networks.specs.Strands.{strand_of, strand_points}
+use Rattle.word_networks.specs.Strands.{strand_points}
 use Rattle.word_networks.proofs.Grids.{names_after-append, step_nodes-append, Spells-append}
 use Rattle.word_networks.proofs.PlacedGrids.{passes_spell}
-use Rattle.word_networks.proofs.Strands.{member_strands, strand_top, halves}
+use Rattle.word_networks.proofs.Strands.{strand_top}
 use Rattle.strand_words.specs.Grids as words
 use Rattle.cable_crossings.proofs.BundleBigon.{passes_run, passes_agree, passes_arcs, arcs_between}
 use Rattle.cable_crossings.proofs.CrossingSteps.{long, long-few, long-some, crossing_nodes, crossing_steps, crossing_renamed, crossing_spells, Follows, crossing_follows, crossing_tops, crossing_names, crossing_distinct, IsLongName, AreLongNames}
-use Rattle.cable_crossings.proofs.NameCodes.{code, named_by, named_by-code, in_lt, out_lt, below_or, in_le, out_le, joined}
-use Rattle.cable_crossings.proofs.StepPieces.{IsRun, based, bottoms_kept, runs_anywhere}
+use Rattle.cable_crossings.proofs.NameCodes.{code, named_by, named_by-code, in_lt, out_lt, below_or, in_le, joined}
+use Rattle.cable_crossings.proofs.StepPieces.{IsRun, based, runs_anywhere}
 use Rattle.cable_crossings.proofs.ThreeRuns.{three_runs}
 
 module _ (x y : ℕ) (few_x : x ≤ 8) (few_y : y ≤ 8) where

@@ -1,7 +1,7 @@
 -- Three bundles that cross one another, at names that are written out: both sides of the third move are runs of steps. Strand i of a
 -- bundle has at its m-th edge, counted from below, the number 8 (32 i + m), and 1 or 2 more in the second and the third bundle; on the
 -- other side of the move inner edges have 4 more.
-use Rattle.std.proofs.Common.{◌≡◌, ◌≢◌, ℕ, ◌+◌, ◌-◌, ◌*◌, ◌<◌, ◌≤◌, ◌&&◌, ◌⊎◌, inl, inr, nat_lt, true, false, cond, List, ◌++◌, refl, sym, ap, ◌∙◌, arith, ⊎_elim}
+use Rattle.std.proofs.Common.{◌≡◌, ◌≢◌, ℕ, ◌+◌, ◌-◌, ◌*◌, ◌<◌, ◌≤◌, ◌&&◌, ◌⊎◌, inl, inr, nat_lt, true, false, cond, List, ◌++◌, sym, ap, ◌∙◌, arith, ⊎_elim}
 use Rattle.std.proofs.lemmas.Bool.Decides.{nat_tests}
 use Rattle.strand_words.specs.Words.{top}
 use Rattle.word_networks.specs.GridNetworks.{FitsGrid}

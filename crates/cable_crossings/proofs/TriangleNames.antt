@@ -1,5 +1,5 @@
 -- The third move of three bundles at any names: the numbers that are written out are read as names of the crossings.
-use Rattle.std.proofs.Common.{◌≡◌, ℕ, zero, suc, ◌+◌, ◌-◌, ◌/◌, ◌%◌, ◌<◌, ◌≤◌, ◌==◌, ◌⊎◌, inl, inr, nat_lt, nat_le, Bool, true, false, if◌then◌else◌, cond, List, ◌++◌, map, refl, sym, ap, ap₂, ◌∙◌, arith, ⊎_elim, All, subst}
+use Rattle.std.proofs.Common.{◌≡◌, ℕ, zero, suc, ◌+◌, ◌-◌, ◌<◌, ◌≤◌, ◌==◌, ◌⊎◌, inl, inr, nat_lt, nat_le, Bool, true, false, if◌then◌else◌, cond, List, ◌++◌, map, refl, sym, ap, ap₂, ◌∙◌, arith, ⊎_elim, All, subst}
 use Rattle.std.proofs.lemmas.Bool.Decides.{nat_tests}
 use Rattle.state_sums.specs.LocalSums.{rename, AreSkeinNumbers}
 use Rattle.state_sums.specs.Networks.{Node, IsNode, names_of}
@@ -13,7 +13,7 @@ use Rattle.word_networks.proofs.Grids.{Spells-append}
 use Rattle.strand_words.specs.Grids as words
 use Rattle.cable_crossings.proofs.BundleTriangle.{bit, star, bit_end, bit_inner, base, one, name, olds, news, s1, s2, s3, t1, t2, t3, n1, n2, m1, m2, v1, h1, v2, h2, v3, h3, w1, k1, w2, k2, w3, k3, fits_1, fits_2, fits_3, fits_4, fits_5, fits_6, old_run, new_run, sides_agree}
 use Rattle.cable_crossings.proofs.CrossingSteps.{long, long-few, long-some, crossing_nodes, crossing_renamed, crossing_spells}
-use Rattle.cable_crossings.proofs.NameCodes.{code, named_by, named_by-code, in_le, out_le, joined}
+use Rattle.cable_crossings.proofs.NameCodes.{code, named_by, named_by-code, in_le, joined}
 use Rattle.cable_crossings.proofs.StepPieces.{runs_anywhere}
 use Rattle.cable_crossings.proofs.ThreeRuns.{three_nodes}
 

@@ -1,8 +1,8 @@
 -- CurlUndo on a component of any colour, where no box lies inside the curl, multiplies the coloured value by its factor: what an accepted step gives.
-use Rattle.std.proofs.Common.{◌≡◌, ◌+◌, ◌*◌, ◌%◌, ◌<◌, ◌==◌, ◌⊎◌, inl, inr, ℕ, zero, suc, Bool, true, false, cond, ltb, List, [], ◌∷◌, ◌++◌, length, reverse, ◌≤◌, Option, Some, None, Ok, pos, negsuc, refl, sym, ap, ap₂, ◌∙◌, arith, subst}
+use Rattle.std.proofs.Common.{◌≡◌, ◌+◌, ◌*◌, ◌%◌, ◌<◌, ◌==◌, ◌⊎◌, inl, ℕ, zero, suc, Bool, true, false, cond, ltb, List, [], ◌∷◌, ◌++◌, length, reverse, ◌≤◌, Option, Some, pos, negsuc, refl, sym, ap, ◌∙◌, arith, subst}
 use Rattle.std.specs.List.{AllByRecursion, find, zip}
 use Rattle.std.specs.Set.{is_member}
-use Rattle.std.proofs.lemmas.Bool.{eq-eqb, eqb-true, ltb-true, or_left}
+use Rattle.std.proofs.lemmas.Bool.{eq-eqb, ltb-true, or_left}
 use Rattle.std.proofs.lemmas.Bool.Decides.{nat_tests}
 use Rattle.std.proofs.lemmas.Nat.{mul-mod_second}
 use Rattle.graph_parts.specs.Ends.{ends_of}
@@ -28,8 +28,8 @@ use Rattle.script_reader.specs.declared.step.Step.TheVariants.{CurlUndo}
 use Rattle.coloured_values.specs.Coloured.{colour_of, is_boxed, coloured}
 use Rattle.coloured_values.specs.Laws.{HasColours}
 use Rattle.coloured_values.proofs.ColouredLaws.{each_label}
-use Rattle.diagram_moves.specs.Anchors.{anchor_inside, inner_edges, labels_of}
-use Rattle.diagram_moves.specs.Moves.{move, four, is_curl, curl_of, curl_classes, closing, removed}
+use Rattle.diagram_moves.specs.Anchors.{inner_edges, labels_of}
+use Rattle.diagram_moves.specs.Moves.{four, is_curl, curl_of, curl_classes, closing, removed}
 use Rattle.diagram_moves.specs.Rewriting.{slot, crossing_at, crossing_labels}
 use Rattle.diagram_moves.specs.Steps.{Moved}
 use Rattle.diagram_moves.specs.declared.fault.MoveFault.TheVariants.{NoCrossing, NotCurl}

@@ -1,49 +1,39 @@
 -- The crossing of a curl beside a projector's box, at any names: mu_n to the power of the curl times the strands. The crossing is a twist, and the box
 -- absorbs it: from its beginning where the strands come in at the box, and from its end where they leave there.
-use Rattle.std.proofs.Common.{◌≡◌, ℕ, zero, suc, ◌+◌, ◌-◌, ◌*◌, ◌/◌, ◌%◌, ◌^◌, ◌<◌, ◌≤◌, ◌==◌, nat_lt, Bool, true, cond, List, [], ◌∷◌, ◌++◌, map, length, reverse, slice_index, refl, sym, ap, ap₂, ◌∙◌, arith, All, append_assoc, subst, ◌||◌}
+use Rattle.std.proofs.Common.{◌≡◌, ℕ, zero, suc, ◌+◌, ◌-◌, ◌*◌, ◌%◌, ◌^◌, ◌<◌, ◌≤◌, nat_lt, Bool, cond, List, [], ◌∷◌, ◌++◌, map, length, reverse, slice_index, refl, sym, ap, ap₂, ◌∙◌, arith, All, append_assoc, subst}
 use Rattle.std.specs.List.{range_with_len, zip}
-use Rattle.std.specs.Set.{is_member}
 use Rattle.std.proofs.lemmas.Bool.Decides.{nat_tests}
-use Rattle.std.proofs.lemmas.List.{ext_get_or, length-reverse, get_or-reverse, map-append}
+use Rattle.std.proofs.lemmas.List.{length-reverse, map-append}
 use Rattle.std.proofs.lemmas.List.Elements.{All-append, All-cons, All-nil}
-use Rattle.std.proofs.lemmas.List.FromFn.{length-map-range_with_len, get_or-map-range_with_len}
-use Rattle.std.proofs.lemmas.Nat.{mul-mod_second}
-use Rattle.graph_parts.proofs.Counting.{is_member-map}
-use Rattle.graph_parts.proofs.Distinct.{is_member-append}
+use Rattle.std.proofs.lemmas.List.FromFn.{length-map-range_with_len}
 use Rattle.list_lemmas.specs.Times.{times_in}
 use Rattle.list_lemmas.proofs.Times.{times_of_member, times_in-append}
-use Rattle.list_lemmas.proofs.Ranges.{is_member-range}
 use Rattle.root_quantum.specs.Parameters.{Parameters}
 use Rattle.root_quantum.specs.QuantumNumbers.{inverse_root, loop_value}
 use Rattle.state_sums.specs.Networks.{Node, Term, IsNode, names_of}
 use Rattle.state_sums.specs.StateSums.{value}
 use Rattle.strand_algebra.specs.Projectors.{IsProjector}
 use Rattle.piece_laws.specs.Arcs.{arcs_of}
-use Rattle.piece_laws.proofs.NameCounts.{bound, below_bound}
-use Rattle.piece_laws.proofs.ParameterNumbers.{skein_numbers}
 use Rattle.piece_laws.proofs.RenamedNodes.{rename_fixed}
-use Rattle.box_laws.proofs.CurlFactors.{curl_factor}
 use Rattle.planar_check.specs.declared.sign.Sign.{Sign}
 use Rattle.planar_check.specs.declared.sign.Sign.TheVariants as signs
 use Rattle.strand_words.specs.Grids.{crossed}
 use Rattle.strand_words.specs.Words.{Letter}
 use Rattle.strand_words.specs.Boxes as words
-use Rattle.state_sums.proofs.Congruent.{mul_same_mod}
-use Rattle.word_networks.specs.GridNetworks.{grid_nodes}
 use Rattle.diagram_moves.proofs.Curling.{is_plus}
 use Rattle.cables.specs.CableNodes.{box_node}
 use Rattle.cables.proofs.NameCounts.{times-reverse, times_of-append}
 use Rattle.cable_crossings.proofs.BundleTurns.{runs_exchanged}
 use Rattle.cable_crossings.proofs.CabledBigon.{names_of_arcs, zip-times}
-use Rattle.cable_crossings.proofs.CrossingSteps.{crossing_nodes, long}
+use Rattle.cable_crossings.proofs.CrossingSteps.{long}
 use Rattle.cable_crossings.proofs.ManyArcs.{joined_all, arcs_ok}
 use Rattle.cable_crossings.proofs.StepPieces.{member_of_one}
 use Rattle.cable_crossings.proofs.ThroughArcs.{turned_arcs}
 use Rattle.cable_crossings.proofs.ToldCrossings.{IsTold, listed, ranged}
 use Rattle.coloured_moves.proofs.ArcMerges.{merged_arcs, joined_first, joined_other, map_fixed}
-use Rattle.coloured_moves.proofs.CurledStrands.{curl_cable, curl_twist, condition}
-use Rattle.coloured_curls.specs.Boxes.{round, box_at, letter_nodes, names_behind, arcs_between}
-use Rattle.coloured_curls.proofs.AbsorbedTwists.{absorbed_front, absorbed_back, box_ok, letters_ok, count, twist_of, twist_count}
+use Rattle.coloured_moves.proofs.CurledStrands.{curl_cable, curl_twist}
+use Rattle.coloured_curls.specs.Boxes.{round, box_at, names_behind}
+use Rattle.coloured_curls.proofs.AbsorbedTwists.{absorbed_front, absorbed_back, box_ok, letters_ok, count, twist_of}
 use Rattle.coloured_curls.proofs.CurlTwists as curls
 use Rattle.coloured_curls.proofs.GridCounts.{among}
 use Rattle.coloured_curls.proofs.LetterCounts.{letter_counts, behind_most, given}

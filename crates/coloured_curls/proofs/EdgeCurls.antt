@@ -10,7 +10,7 @@ use Rattle.std.proofs.lemmas.List.Elements.{All-append, All-cons, All-head, All-
 use Rattle.std.proofs.lemmas.List.Sorted.{All-permutation, IsPermutation-append_right}
 use Rattle.graph_parts.specs.Walks.{Joined, stay, back}
 use Rattle.list_lemmas.specs.Times.{times_in}
-use Rattle.list_lemmas.proofs.Times.{member_of_times, times_in-append}
+use Rattle.list_lemmas.proofs.Times.{member_of_times}
 use Rattle.state_sums.specs.Networks.{Node, Term, IsNode, names_of}
 use Rattle.state_sums.specs.StateSums.{value}
 use Rattle.state_sums.proofs.NetworkLaws.{any_order}
@@ -18,7 +18,7 @@ use Rattle.root_quantum.specs.Parameters.{Parameters}
 use Rattle.root_quantum.specs.QuantumNumbers.{inverse_root, loop_value}
 use Rattle.strand_algebra.specs.Projectors.{IsProjector}
 use Rattle.strand_words.specs.Boxes as words
-use Rattle.strand_words.specs.Grids.{crossed, row}
+use Rattle.strand_words.specs.Grids.{crossed}
 use Rattle.strand_words.specs.Words.{Letter}
 use Rattle.piece_laws.specs.Arcs.{arcs_of}
 use Rattle.pd_reader.specs.declared.item.Item.{Item}
@@ -29,7 +29,7 @@ use Rattle.planar_check.specs.Components.{component_least, strand_edges}
 use Rattle.planar_check.specs.declared.sign.Sign.{Sign}
 use Rattle.planar_check.specs.declared.sign.Sign.TheVariants as signs
 use Rattle.cables.specs.CableNodes.{box_node}
-use Rattle.cables.specs.Cables.{Standing, start, count_placed, loop_nodes, as_net}
+use Rattle.cables.specs.Cables.{Standing, start, count_placed, as_net}
 use Rattle.cables.specs.Nets.{HasProjector, projector_of}
 use Rattle.cables.specs.Strands.{Strands, first_names, second_names}
 use Rattle.cables.proofs.NameCounts.{times_of-append, times-reverse}
@@ -52,10 +52,10 @@ use Rattle.coloured_moves.proofs.CurledCables as cables
 use Rattle.coloured_moves.proofs.CurledStrands.{curl_twist}
 use Rattle.coloured_moves.proofs.ExchangedStubs.{halved_stubbed, sizes-stubbed}
 use Rattle.coloured_moves.proofs.StubItems.{half, boxes_of, first_boxes, first_labels, first_labels_times, at_stub, split, stub_nodes, stubbed, ungrouped_boxes}
-use Rattle.coloured_moves.proofs.StubNames.{stub_sum, stub_sum_none, loop_sum, stub_nodes_times}
+use Rattle.coloured_moves.proofs.StubNames.{stub_sum, stub_sum_none, stub_nodes_times}
 use Rattle.coloured_moves.proofs.TurnedBoxes.{boxes_ok, names_permuted, ungrouped_value}
 use Rattle.coloured_curls.specs.Boxes.{letter_nodes, names_behind}
-use Rattle.coloured_curls.proofs.AbsorbedTwists.{count, twist_count}
+use Rattle.coloured_curls.proofs.AbsorbedTwists.{count}
 use Rattle.coloured_curls.proofs.BoxedCurls.{curl_pairs}
 use Rattle.coloured_curls.proofs.BoxedEdges.{split_at}
 use Rattle.coloured_curls.proofs.CurlTwists as curls

@@ -1,7 +1,7 @@
 -- The crossings of a twist at a stub of a component of colour n from 2 on: each walks along the component to its box, so the twist counts as its weights
 -- of going straight on.
-use Rattle.std.proofs.Common.{◌≡◌, ℕ, zero, suc, ◌+◌, ◌-◌, ◌*◌, ◌%◌, ◌^◌, ◌<◌, ◌≤◌, ◌⊎◌, inl, inr, Bool, List, [], ◌∷◌, ◌++◌, map, length, reverse, slice_index, refl, sym, ap, ◌∙◌, arith, ⊎_elim, subst}
-use Rattle.std.specs.List.{AllByRecursion, range_with_len, zip}
+use Rattle.std.proofs.Common.{◌≡◌, ℕ, zero, suc, ◌+◌, ◌-◌, ◌*◌, ◌%◌, ◌^◌, ◌<◌, ◌≤◌, ◌⊎◌, inl, inr, Bool, List, [], ◌∷◌, ◌++◌, map, length, reverse, slice_index, refl, sym, ◌∙◌, arith, ⊎_elim, subst}
+use Rattle.std.specs.List.{range_with_len, zip}
 use Rattle.graph_parts.specs.Walks.{Joined, stay}
 use Rattle.list_lemmas.specs.Times.{times_in}
 use Rattle.list_lemmas.proofs.Times.{times_in-append}

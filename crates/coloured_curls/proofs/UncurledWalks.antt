@@ -1,6 +1,6 @@
 -- A diagram without the crossing of a curl: both ends that are left are on one component, and so is what was, where the loop goes to one of the ends.
 -- For a component has an even number of places.
-use Rattle.std.proofs.Common.{◌≡◌, ◌≢◌, ℕ, zero, suc, ◌+◌, ◌<◌, ◌≤◌, ◌==◌, ◌⊎◌, inl, inr, Bool, true, false, cond, List, [], ◌∷◌, ◌++◌, length, slice_index, Some, refl, sym, ap, ap₂, ◌∙◌, arith, ⊎_elim, subst, Contains}
+use Rattle.std.proofs.Common.{◌≡◌, ◌≢◌, ℕ, zero, suc, ◌+◌, ◌<◌, ◌≤◌, ◌==◌, Bool, true, false, cond, List, [], ◌∷◌, ◌++◌, length, slice_index, Some, refl, sym, ap, ◌∙◌, arith, ⊎_elim, subst, Contains}
 use Rattle.std.specs.List.{AllByRecursion}
 use Rattle.std.specs.Set.{is_member}
 use Rattle.std.proofs.lemmas.Bool.{cases_Bool, cases_eq, eq-eqb, eqb-true}
@@ -10,7 +10,6 @@ use Rattle.graph_parts.specs.LeastNames.{least_label}
 use Rattle.graph_parts.specs.Walks.{Joined, along, stay, back, on}
 use Rattle.list_lemmas.specs.Times.{times_in}
 use Rattle.list_lemmas.proofs.Times.{times_in-cons, times_of_member}
-use Rattle.state_sums.specs.Networks.{names_of}
 use Rattle.pd_reader.specs.declared.item.Item.{Item}
 use Rattle.pd_reader.specs.declared.item.Item.TheVariants as item
 use Rattle.pd_reader.specs.Items.{HasItsSlots}
@@ -18,7 +17,7 @@ use Rattle.planar_check.specs.Components.{item_strands, strand_edges}
 use Rattle.cables.proofs.NameCounts.{at}
 use Rattle.diagram_moves.specs.Laws.{IsPairedDiagram}
 use Rattle.diagram_moves.specs.Moves.{is_curl}
-use Rattle.diagram_moves.specs.Rewriting.{slot, around, crossing_at, crossing_labels}
+use Rattle.diagram_moves.specs.Rewriting.{slot, crossing_at, crossing_labels}
 use Rattle.diagram_moves.proofs.Corners.{one_times}
 use Rattle.diagram_moves.proofs.Paired.{paired}
 use Rattle.diagram_moves.proofs.KeptStrands.{kept_strands}
@@ -28,7 +27,7 @@ use Rattle.coloured_moves.proofs.PulledStubs.{crossing_labels-dropped}
 use Rattle.coloured_moves.proofs.StubNames.{kept_stubs-kept}
 use Rattle.coloured_moves.proofs.Tests.{one_if}
 use Rattle.coloured_curls.proofs.CutStubs.{strand_ends, both_ends}
-use Rattle.coloured_curls.proofs.CutWalks.{ones, IsEven, twice_even, strands_even, all_along, all_tested}
+use Rattle.coloured_curls.proofs.CutWalks.{twice_even, strands_even, all_along, all_tested}
 
 -- the strands of the crossings that stay
 kept_dropped : (gone : List ℕ) (n : ℕ) (items : List Item) → kept_strands gone n items ≡ strand_edges (dropped gone n items)

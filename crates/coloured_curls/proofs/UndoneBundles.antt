@@ -1,11 +1,11 @@
 -- The crossing of a curl that CurlUndo takes, beside the other nodes of its diagram: its strands come in at one stub, go round the loop and leave at
 -- another. The diagram with one bundle of arcs in place of the crossing is one with two, which meet in the loop's label.
-use Rattle.std.proofs.Common.{◌≡◌, ◌≢◌, ℕ, zero, suc, ◌+◌, ◌*◌, ◌%◌, ◌<◌, ◌≤◌, ◌==◌, ◌&&◌, ◌⊎◌, inl, inr, not, Bool, true, false, cond, List, [], ◌∷◌, ◌++◌, length, reverse, slice_index, Some, refl, sym, ap, ap₂, ◌∙◌, arith, ⊎_elim, All, subst, append-nil}
+use Rattle.std.proofs.Common.{◌≡◌, ◌≢◌, ℕ, zero, suc, ◌+◌, ◌%◌, ◌<◌, ◌≤◌, ◌==◌, ◌&&◌, Bool, true, false, cond, List, [], ◌∷◌, ◌++◌, length, reverse, slice_index, Some, refl, sym, ap, ◌∙◌, arith, ⊎_elim, All, subst, append-nil}
 use Rattle.std.specs.List.{AllByRecursion, zip}
 use Rattle.std.specs.List.Sorted.{IsPermutation}
 use Rattle.std.specs.Set.{is_member}
 use Rattle.std.proofs.lemmas.Bool.{cases_eq, eqb-true}
-use Rattle.std.proofs.lemmas.List.Sorted.{All-permutation, IsPermutation-trans}
+use Rattle.std.proofs.lemmas.List.Sorted.{All-permutation}
 use Rattle.graph_parts.specs.Ends.{ends_of}
 use Rattle.list_lemmas.specs.Times.{times_in}
 use Rattle.list_lemmas.proofs.Times.{times_of_member, member_of_times}
@@ -35,7 +35,7 @@ use Rattle.diagram_moves.specs.Moves.{is_curl}
 use Rattle.diagram_moves.specs.Rewriting.{slot, around, crossing_at, crossing_labels}
 use Rattle.diagram_moves.proofs.Corners.{one_times}
 use Rattle.diagram_moves.proofs.Curling.{is_plus}
-use Rattle.diagram_moves.proofs.Paired.{paired, times_labels, loop_labels}
+use Rattle.diagram_moves.proofs.Paired.{paired, times_labels}
 use Rattle.diagram_moves.proofs.Rewritten.{anew}
 use Rattle.move_results.proofs.DiagramResults.{as_paired}
 use Rattle.cable_crossings.proofs.StepPieces.{All-first, All-second}

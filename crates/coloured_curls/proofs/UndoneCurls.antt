@@ -1,14 +1,14 @@
 -- CurlUndo on a component of any colour multiplies the coloured value by mu_n to the power of the factor's curl: the crossing that goes counts as mu_n to the
 -- power of the curl that it is times the strands. Where the strands come in at the component's box it absorbs the twist; else the twist walks to it.
-use Rattle.std.proofs.Common.{◌≡◌, ℕ, zero, suc, ◌+◌, ◌-◌, ◌*◌, ◌%◌, ◌^◌, ◌<◌, ◌≤◌, ◌==◌, ◌&&◌, nat_le, Bool, true, false, cond, List, [], ◌∷◌, ◌++◌, map, length, reverse, Some, refl, sym, ap, ap₂, ◌∙◌, arith, ⊎_elim, All, subst, append_assoc}
-use Rattle.std.specs.List.{AllByRecursion, range_with_len, zip}
+use Rattle.std.proofs.Common.{◌≡◌, ℕ, zero, suc, ◌+◌, ◌*◌, ◌%◌, ◌<◌, ◌≤◌, ◌==◌, ◌&&◌, Bool, true, false, cond, List, [], ◌∷◌, ◌++◌, length, reverse, Some, refl, sym, ap, ap₂, ◌∙◌, arith, ⊎_elim, All, subst, append_assoc}
+use Rattle.std.specs.List.{zip}
 use Rattle.std.specs.Set.{is_member}
-use Rattle.std.proofs.lemmas.Bool.{cases_Bool, and_parts, eqb-true}
+use Rattle.std.proofs.lemmas.Bool.{cases_Bool}
 use Rattle.std.proofs.lemmas.Bool.Decides.{nat_tests}
-use Rattle.std.proofs.lemmas.List.{length-reverse, map-append}
+use Rattle.std.proofs.lemmas.List.{map-append}
 use Rattle.std.proofs.lemmas.List.Elements.{All-append, All-cons, All-head, All-nil, All-tail}
 use Rattle.list_lemmas.specs.Times.{times_in}
-use Rattle.list_lemmas.proofs.Times.{member_of_times, times_in-append, times_of_member}
+use Rattle.list_lemmas.proofs.Times.{member_of_times, times_in-append}
 use Rattle.state_sums.specs.Networks.{Node, Term, IsNode, names_of}
 use Rattle.state_sums.specs.StateSums.{value}
 use Rattle.root_quantum.specs.Parameters.{Parameters}
@@ -18,7 +18,6 @@ use Rattle.piece_laws.specs.Arcs.{arcs_of}
 use Rattle.strand_words.specs.Grids.{crossed}
 use Rattle.pd_reader.specs.declared.item.Item.{Item}
 use Rattle.pd_reader.specs.Diagrams.{IsDiagram}
-use Rattle.planar_check.specs.Components.{component_least}
 use Rattle.planar_check.specs.declared.sign.Sign.{Sign}
 use Rattle.cables.specs.CableNodes.{box_node}
 use Rattle.cables.specs.Nets.{HasProjector, projector_of}
@@ -36,7 +35,7 @@ use Rattle.cable_crossings.proofs.CrossingSteps.{crossing_nodes}
 use Rattle.cable_crossings.proofs.ManyArcs.{arcs_ok}
 use Rattle.cable_crossings.proofs.StepPieces.{All-first, All-second}
 use Rattle.coloured_moves.proofs.CurledStrands.{curl_twist, no_twist}
-use Rattle.coloured_moves.proofs.StubItems.{half, at_stub, boxes_of, first_labels, first_labels_times}
+use Rattle.coloured_moves.proofs.StubItems.{half, boxes_of, first_labels_times}
 use Rattle.coloured_moves.proofs.TurnedBoxes.{box_ok, boxes_ok}
 use Rattle.coloured_curls.proofs.AbsorbedTwists.{once}
 use Rattle.coloured_curls.proofs.BoxedCurls.{boxed_into}

@@ -1,18 +1,17 @@
 -- The crossing of a curl that CurlUndo takes, where the component has a colour from 2 on and the edge at which its strands come in has no box: the twist
 -- walks along the component to the box, so the crossing counts as mu_n to the power of the curl times the strands.
 use Rattle.std.proofs.Common.{◌≡◌, ◌≢◌, ℕ, zero, suc, ◌+◌, ◌-◌, ◌*◌, ◌/◌, ◌%◌, ◌^◌, ◌<◌, ◌≤◌, ◌==◌, ◌&&◌, ◌⊎◌, inl, inr, nat_le, nat_lt, Bool, true, false, cond, List, [], ◌∷◌, ◌++◌, map, length, reverse, slice_index, refl, sym, ap, ap₂, ◌∙◌, arith, ⊎_elim, All, Some, subst, append_assoc}
-use Rattle.std.specs.List.{AllByRecursion, range_with_len, zip}
+use Rattle.std.specs.List.{range_with_len, zip}
 use Rattle.std.specs.Set.{is_member}
-use Rattle.std.proofs.lemmas.Bool.{cases_Bool, cases_eq, eq-eqb, eqb-true, and_parts}
+use Rattle.std.proofs.lemmas.Bool.{cases_Bool, cases_eq, eq-eqb, eqb-true}
 use Rattle.std.proofs.lemmas.Bool.Decides.{nat_tests}
 use Rattle.std.proofs.lemmas.List.{get_or-reverse, length-reverse, map-append}
 use Rattle.std.proofs.lemmas.List.Elements.{All-append, All-cons, All-head, All-tail}
-use Rattle.graph_parts.specs.Ends.{ends_of}
 use Rattle.graph_parts.specs.LeastNames.{least_label}
 use Rattle.graph_parts.specs.Walks.{Joined, back}
 use Rattle.graph_parts.proofs.LeastLabels.{AreLeast-labels, least_label-Joined}
 use Rattle.list_lemmas.specs.Times.{times_in}
-use Rattle.list_lemmas.proofs.Times.{member_of_times, times_in-append, times_in-cons, times_of_member}
+use Rattle.list_lemmas.proofs.Times.{member_of_times, times_in-cons, times_of_member}
 use Rattle.state_sums.specs.Networks.{Node, Term, IsNode, names_of}
 use Rattle.state_sums.specs.StateSums.{value}
 use Rattle.root_quantum.specs.Parameters.{Parameters}
@@ -29,7 +28,7 @@ use Rattle.cables.specs.CableNodes.{box_node}
 use Rattle.cables.specs.Nets.{HasProjector, projector_of}
 use Rattle.cables.specs.Strands.{Strands}
 use Rattle.cables.proofs.NameCounts.{at, times_of-append, times-reverse}
-use Rattle.cables.proofs.NumberedStrands.{first_label, first_length}
+use Rattle.cables.proofs.NumberedStrands.{first_length}
 use Rattle.cables.proofs.ProjectorBoxes.{projector_boxes}
 use Rattle.coloured_values.specs.Coloured.{colour_of, is_boxed}
 use Rattle.coloured_values.specs.Laws.{HasColours}
@@ -42,7 +41,6 @@ use Rattle.move_results.proofs.LeastLabelLists.{least_is}
 use Rattle.cable_crossings.proofs.BundleTurns.{runs_exchanged}
 use Rattle.cable_crossings.proofs.ManyArcs.{arcs_ok}
 use Rattle.cable_crossings.proofs.StepPieces.{All-first, All-second}
-use Rattle.coloured_moves.proofs.ColouredSlides.{boxed_projector}
 use Rattle.coloured_moves.proofs.CurledStrands.{curl_twist}
 use Rattle.coloured_moves.proofs.DroppedCrossings.{dropped, dropped_ok, dropped_names, dropped_beside, boxes_low, old_name, low_name, high_name}
 use Rattle.coloured_moves.proofs.ExchangedStubs.{halved_stubbed}
@@ -50,8 +48,8 @@ use Rattle.coloured_moves.proofs.LabelColours.{joined_colour, label_in, loop_out
 use Rattle.coloured_moves.proofs.PulledBundles.{loop_labels-stubbed}
 use Rattle.coloured_moves.proofs.PulledStubs.{crossing_labels-dropped, halved-dropped, loop_labels-dropped}
 use Rattle.coloured_moves.proofs.PushedCables.{unboxed_second}
-use Rattle.coloured_moves.proofs.StubItems.{half, halved, at_stub, at_stub_is, stub_nodes, boxes_of, first_labels, first_labels_times}
-use Rattle.coloured_moves.proofs.StubNames.{kept_stubs, Straight, stub_apart, stub_label, stub_low, stub_once, stub_nodes_times, stub_sum_none}
+use Rattle.coloured_moves.proofs.StubItems.{half, halved, at_stub, at_stub_is, stub_nodes, boxes_of, first_labels_times}
+use Rattle.coloured_moves.proofs.StubNames.{kept_stubs, Straight, stub_label, stub_low, stub_once, stub_nodes_times, stub_sum_none}
 use Rattle.coloured_moves.proofs.Tests.{one_if, one_apart, one_most, one_same, one_shown}
 use Rattle.coloured_moves.proofs.TurnedBoxes.{boxes_ok}
 use Rattle.coloured_curls.specs.Boxes.{letter_nodes, names_behind}
