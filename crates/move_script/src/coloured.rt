@@ -7,7 +7,7 @@ ghost use Rattle.pd_reader.specs.Diagrams.{labels};
 ghost use Rattle.planar_check.specs.Components.{greatest, least_labels};
 ghost use Rattle.diagram_moves.specs.Anchors.{applied_coloured, first_anchor, inner_edges};
 ghost use Rattle.move_results.specs.Laws.{added};
-ghost use Rattle.move_script.specs.ColouredMoves.{KeepsColoured};
+ghost use Rattle.move_script.specs.ColouredMoves.{ValueFollows};
 ghost use Rattle.script_reader.specs.Steps.{is_slide};
 
 use crate::crossings::{crossing, slot};
@@ -151,8 +151,9 @@ pub fn apply_coloured(
     // The components keep their least labels, in their order, and `BlowUp` adds one at the end.
     ensures components { IfOk result (λ moved. least_labels moved.items ≡ least_labels diagram.now ++ added step.now diagram.now) }
     ensures greatest { IfOk result (λ moved. greatest (labels item_labels moved.items) ≤ greatest (labels item_labels diagram.now) + 4) }
-    // `R2`, `R2Undo` and `R3` keep the coloured value, at all parameters at which each colour has its projector.
-    ensures coloured { IfOk result (λ moved. KeepsColoured diagram.now colours.now step.now moved.items) }
+    // At all parameters at which each colour has its projector `R2`, `R2Undo` and `R3` keep the coloured value, and `Curl` and `CurlUndo` on a component
+    // of colour n multiply it by `mu_n` to the power of the factor's curl.
+    ensures coloured { IfOk result (λ moved. ValueFollows diagram.now colours.now step.now moved) }
 {
     let moved = apply(alloc, diagram, step)?;
     let edges = inner_edges(alloc, diagram.diagram().items(), step)?;
