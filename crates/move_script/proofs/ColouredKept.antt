@@ -17,6 +17,7 @@ use Rattle.coloured_moves.proofs.ColouredMoves.{coloured_push}
 use Rattle.coloured_moves.proofs.ColouredBigons.{coloured_bigon}
 use Rattle.coloured_moves.proofs.ColouredSlides.{coloured_slide}
 use Rattle.coloured_curls.proofs.AllCurls as all_curls
+use Rattle.coloured_curls.proofs.AllUndos as all_undos
 use Rattle.move_script.specs.ColouredMoves.{ValueFollows}
 
 -- a result that is kept is the move's
@@ -34,7 +35,7 @@ by_step items colours (R2 over under) moved is room free made = λ p has exist. 
 by_step items colours (R2Undo first second) moved is room free made = λ p has exist. coloured_bigon p items first second moved colours is has exist free made
 by_step items colours (R3 first second third) moved is room free made = λ p has exist. coloured_slide p items first second third moved colours is has exist free made
 by_step items colours (Curl edge sign) moved is room free made = λ p has exist. all_curls.curl p items edge sign moved colours is room has exist made
-by_step items colours (CurlUndo crossing) moved is room free made = tt
+by_step items colours (CurlUndo crossing) moved is room free made = λ here at p has exist. all_undos.curl_undo p items crossing here moved colours is has exist at free made
 by_step items colours (BlowUp sign) moved is room free made = tt
 by_step items colours (Slide edge along) moved is room free made = tt
 
