@@ -1,14 +1,14 @@
 -- Curl on an edge without a box, of a component of a colour from 2 on: the crossings of its twist walk along the component to the box, so the curl
 -- counts as its factor.
-use Rattle.std.proofs.Common.{◌≡◌, ℕ, zero, suc, ◌+◌, ◌-◌, ◌*◌, ◌%◌, ◌^◌, ◌<◌, ◌≤◌, ◌==◌, ◌&&◌, inl, inr, Bool, true, false, cond, List, [], ◌∷◌, ◌++◌, map, length, reverse, slice_index, refl, sym, ap, ap₂, ◌∙◌, arith, ⊎_elim, All, subst, append_assoc}
-use Rattle.std.specs.List.{AllByRecursion, range_with_len, zip}
+use Rattle.std.proofs.Common.{◌≡◌, ◌⊎◌, ℕ, zero, suc, ◌+◌, ◌-◌, ◌*◌, ◌%◌, ◌^◌, ◌<◌, ◌≤◌, ◌==◌, ◌&&◌, inl, inr, Bool, true, false, cond, List, [], ◌∷◌, ◌++◌, length, reverse, refl, sym, ap, ap₂, ◌∙◌, arith, ⊎_elim, All, subst, append_assoc}
+use Rattle.std.specs.List.{AllByRecursion, zip}
 use Rattle.std.specs.List.Sorted.{IsPermutation}
 use Rattle.std.specs.Set.{is_member}
 use Rattle.std.proofs.lemmas.Bool.{cases_Bool}
-use Rattle.std.proofs.lemmas.List.{get_or-reverse, length-reverse, map-append, reverse-reverse}
+use Rattle.std.proofs.lemmas.List.{length-reverse, map-append, reverse-reverse}
 use Rattle.std.proofs.lemmas.List.Elements.{All-append, All-cons, All-head, All-tail}
 use Rattle.std.proofs.lemmas.List.Sorted.{All-permutation, IsPermutation-append_right}
-use Rattle.graph_parts.specs.Walks.{Joined, stay, back}
+use Rattle.graph_parts.specs.Walks.{Joined, back}
 use Rattle.list_lemmas.specs.Times.{times_in}
 use Rattle.list_lemmas.proofs.Times.{member_of_times}
 use Rattle.state_sums.specs.Networks.{Node, Term, IsNode, names_of}
@@ -17,9 +17,7 @@ use Rattle.state_sums.proofs.NetworkLaws.{any_order}
 use Rattle.root_quantum.specs.Parameters.{Parameters}
 use Rattle.root_quantum.specs.QuantumNumbers.{inverse_root, loop_value}
 use Rattle.strand_algebra.specs.Projectors.{IsProjector}
-use Rattle.strand_words.specs.Boxes as words
 use Rattle.strand_words.specs.Grids.{crossed}
-use Rattle.strand_words.specs.Words.{Letter}
 use Rattle.piece_laws.specs.Arcs.{arcs_of}
 use Rattle.pd_reader.specs.declared.item.Item.{Item}
 use Rattle.pd_reader.specs.declared.item.Item.TheVariants as item
@@ -51,25 +49,20 @@ use Rattle.coloured_moves.proofs.ColouredSlides.{boxed_projector}
 use Rattle.coloured_moves.proofs.CurledCables as cables
 use Rattle.coloured_moves.proofs.CurledStrands.{curl_twist}
 use Rattle.coloured_moves.proofs.ExchangedStubs.{halved_stubbed, sizes-stubbed}
-use Rattle.coloured_moves.proofs.StubItems.{half, boxes_of, first_boxes, first_labels, first_labels_times, at_stub, split, stub_nodes, stubbed, ungrouped_boxes}
+use Rattle.coloured_moves.proofs.StubItems.{half, halved, boxes_of, first_boxes, first_labels, first_labels_times, at_stub, split, stub_nodes, stubbed, ungrouped_boxes}
 use Rattle.coloured_moves.proofs.StubNames.{stub_sum, stub_sum_none, stub_nodes_times}
 use Rattle.coloured_moves.proofs.TurnedBoxes.{boxes_ok, names_permuted, ungrouped_value}
-use Rattle.coloured_curls.specs.Boxes.{letter_nodes, names_behind}
-use Rattle.coloured_curls.proofs.AbsorbedTwists.{count}
 use Rattle.coloured_curls.proofs.BoxedCurls.{curl_pairs}
 use Rattle.coloured_curls.proofs.BoxedEdges.{split_at}
 use Rattle.coloured_curls.proofs.CurlTwists as curls
 use Rattle.coloured_curls.proofs.CutStubs as stubs
 use Rattle.coloured_curls.proofs.CutStubs.{joined_in}
 use Rattle.coloured_curls.proofs.EdgeLetters.{AreNumbered, IsHigh, kept_all}
-use Rattle.coloured_curls.proofs.GridCounts.{among}
-use Rattle.coloured_curls.proofs.HighTwists.{renumbered}
-use Rattle.coloured_curls.proofs.LetterNets.{AreAmong}
-use Rattle.coloured_curls.proofs.LetterSteps.{AreStubs, weight}
-use Rattle.coloured_curls.proofs.LetterWalks.{AllFree, IsFree, along_component, boxed_label}
-use Rattle.coloured_curls.proofs.LetterWords.{AreLetters, are_among, word_counts}
-use Rattle.coloured_curls.proofs.RenumberedLetters.{arcs_times, letters_ok}
-use Rattle.coloured_curls.proofs.StubWords.{twist_letters, short_twist, boxes_none, loops_none}
+use Rattle.coloured_curls.proofs.LetterSteps.{AreStubs}
+use Rattle.coloured_curls.proofs.RenumberedLetters.{arcs_times}
+use Rattle.cables.proofs.LabelNames.{zero_or_some}
+use Rattle.coloured_curls.proofs.StubCurls.{curl_at_stub}
+use Rattle.coloured_curls.proofs.StubWords.{boxes_none, loops_none}
 use Rattle.coloured_curls.proofs.EdgeComponents as parts
 
 -- ---- diagrams
@@ -428,79 +421,43 @@ module _ (p : Parameters) (items : List Item) (pd : IsPairedDiagram items) (e : 
     long_stub : (x : ℕ) → half x ≡ l0 → length (at_stub S x) ≡ suc k
     long_stub x h = stubs.long p R new after_is sizes_R colours has x ∙ ap colour h ∙ parts.colour_l0 p items pd e has_e sign colours room after_is has projectors tall unboxed ∙ tall_k
 
-    frees : (K : List Node) → AreStubs p S (box ∷ K) 1 1 0 lg D → IsFree p free (is_plus sign) S (box ∷ K) 1 1 0 lg D w
-    frees K are =
-        let at_box = boxed_label p free (is_plus sign) S K 1 1 0 lg D f0 l0 k is_projector (long_stub (2 * l0) (omega arith)) (long_stub (2 * l0 + 1) (omega arith)) are numbered in
-        let walk = along_component p free (is_plus sign) S (box ∷ K) 1 1 0 lg D are numbered R (halved_stubbed [] R) l0
-        (λ l j. ⊎_elim
-        (λ b. inl (let P : ℕ → Type 0 = λ i. AllFree p free (is_plus sign) S (box ∷ K) 1 1 0 lg D are numbered i in subst P (sym (parts.only_box p items pd e has_e sign colours room after_is has projectors tall unboxed l j b)) at_box))
-        (λ b. inr (λ one two. stubs.plain_stubs p R new after_is sizes_R colours has l b))
-        (cases_Bool (boxed l)))
-        (back (side_joined sign)) stay in
-        (walk.0 at_box).0 stands
+    -- the component has no other box
+    plain : (l : ℕ) → Joined (strand_edges (halved D)) l0 l → (l ≡ l0) ⊎ (at_stub S (2 * l + 1) ≡ reverse (at_stub S (2 * l)))
+    plain l j =
+        let P : List Item → Type 0 = λ xs. Joined (strand_edges xs) l0 l in
+        ⊎_elim
+        (λ b. inl (parts.only_box p items pd e has_e sign colours room after_is has projectors tall unboxed l (subst P (halved_stubbed [] R) j) b))
+        (λ b. inr (stubs.plain_stubs p R new after_is sizes_R colours has l b))
+        (cases_Bool (boxed l))
 
-    -- ---- the twist
-    abbrev u : List Letter
-    u = words.twist p.root (inverse_root p) (is_plus sign) 0 k (suc k)
+    walk : Joined (strand_edges (halved D)) l0 (half w)
+    walk =
+        let P : List Item → Type 0 = λ xs. Joined (strand_edges xs) l0 (half w) in
+        let Q : ℕ → Type 0 = λ y. Joined es l0 y in
+        subst P (sym (halved_stubbed [] R)) (subst Q (let q : side sign ≡ half w = omega arith in q) (back (side_joined sign)))
 
-    abbrev v0 : ℕ → ℕ
-    v0 = curls.v p free k sign into out M few_k long_into long_out long_M X1 CR is_told ok_CR twice 0
+    low_strands : (z : ℕ) → 1 ≤ times_in into z + times_in out z → z < 2 ^ 25
+    low_strands z one =
+        let of_stub : (y : ℕ) → half y ≤ 2000000 → 1 ≤ times_in (at_stub S y) z → z < 2 ^ 25 = λ y l h. (let q = numbered.label y z h in omega (arith, q, l)) in
+        ⊎_elim
+        (λ (n : times_in into z ≡ 0).
+        let q : half (2 * other sign + 1) ≡ other sign = omega arith in
+        let low = low_label (other sign) (other_in sign) in
+        let d = ap (λ xs. times_in xs z) (out_side sign ∙ sym (stubs.at_high p R new after_is sizes_R colours has (other sign))) in
+        of_stub (2 * other sign + 1) (omega (arith, q, low)) (omega (arith, one, n, d)))
+        (λ n.
+        let q : half w ≡ side sign = omega arith in
+        let low = low_label (side sign) (side_in sign) in
+        let d = ap (λ xs. times_in xs z) into_is ∙ times-reverse z A in
+        let n1 = n.1 in
+        of_stub w (omega (arith, q, low)) (omega (arith, d, n1)))
+        (zero_or_some (times_in into z))
 
-    abbrev big : ℕ
-    big = curls.big p free k sign into out M few_k long_into long_out long_M X1 CR is_told ok_CR twice
-
-    abbrev H : ℕ
-    H = 16 * 2000001
-
-    letters_u : AreLetters p (is_plus sign) (length A) u
-    letters_u = subst (λ n. AreLetters p (is_plus sign) n u) (sym long_A) (twist_letters p (is_plus sign) (suc k) 0 k (suc k) (omega arith))
-
-    short_u : 2 * length u ≤ 112
-    short_u = short_twist p (is_plus sign) k few_k
-
-    strands_same : (j : ℕ) → j < length A → v0 j ≡ slice_index A (length A - 1 - j)
-    strands_same j l =
-        curls.in_at p free k sign into out M few_k long_into long_out long_M X1 CR is_told ok_CR twice j (let q = long_A in omega (arith, q, l))
-        ∙ ap (λ xs. slice_index xs j) into_is ∙ get_or-reverse A j 0 l
-
-    into_among : (z : ℕ) → among v0 0 (length A) z ≡ times_in into z
-    into_among z =
-        ap (λ n. among v0 0 n z) long_A
-        ∙ ap (λ xs. times_in xs z) (curls.into_list p free k sign into out M few_k long_into long_out long_M X1 CR is_told ok_CR twice)
-
-    below_big : (z : ℕ) → 1 ≤ times_in into z + times_in out z + times_in (names_of CR) z → z < big
-    below_big z one =
-        curls.low_name p free k sign into out M few_k long_into long_out long_M X1 CR is_told ok_CR twice z one
-
-    abbrev LA : List Node
-    LA = letter_nodes u v0 big ++ arcs_of (zip (map (names_behind u v0 big) (range_with_len 0 (length A))) Ys)
-
-    told : curls.L p free k sign into out M few_k long_into long_out long_M X1 CR is_told ok_CR twice ++ curls.A p free k sign into out M few_k long_into long_out long_M X1 CR is_told ok_CR twice ≡ LA
-    told =
-        ap (λ ns. letter_nodes u v0 big ++ ns)
-        (curls.A_is p free k sign into out M few_k long_into long_out long_M X1 CR is_told ok_CR twice
-        ∙ ap (λ ys. arcs_of (zip (map (names_behind u v0 big) (range_with_len 0 (suc k))) ys)) (curls.leaves_list p free k sign into out M few_k long_into long_out long_M X1 CR is_told ok_CR twice)
-        ∙ ap (λ n. arcs_of (zip (map (names_behind u v0 big) (range_with_len 0 n)) Ys)) (sym long_A))
-
-    abbrev Z : ℕ
-    Z = V (arcs_of (zip into Ys) ++ CR)
-
-    absorbed : V (LA ++ CR) ≡ weight p (is_plus sign) ^ count u * Z % p.modulus
-    absorbed =
-        let among_u : AreAmong (length A) u = are_among p (is_plus sign) (length A) u letters_u in
-        let tA : ℕ → ℕ = λ j. slice_index A (length A - 1 - j) in
-        let word = letter_nodes u tA H ++ arcs_of (zip (map (names_behind u tA H) (range_with_len 0 (length A))) Ys) in
-        let arcs = arcs_of (zip (reverse A) Ys) in
-        renumbered p.modulus (loop_value p) free (length A) u among_u v0 tA strands_same Ys same_long CR ok_CR big H
-        (λ z one. below_big z (let q = into_among z in let r = times-reverse z out in omega (arith, q, r, one)))
-        (λ z lo hi.
-        let h : IsHigh z = (lo, (let s = short_u in omega (arith, hi, s))) in
-        let q = into_among z in let r = times-reverse z out in let a = into_clear z h in let b = out_clear z h in let d = CR_clear z h in
-        omega (arith, q, r, a, b, d))
-        ∙ front word (All-append IsNode (letter_nodes u tA H) (arcs_of (zip (map (names_behind u tA H) (range_with_len 0 (length A))) Ys)) (letters_ok u tA H) (arcs_ok (zip (map (names_behind u tA H) (range_with_len 0 (length A))) Ys)))
-        ∙ word_counts p free (is_plus sign) S box OB 1 1 0 lg D numbered w stands (stubs.alone p R new after_is sizes_R colours has (side sign) (side_once sign)) Ys same_long base_are no_high frees u H letters_u (omega arith)
-        (let s = short_u in omega (arith, s))
-        ∙ ap (λ j. weight p (is_plus sign) ^ count u * j % p.modulus) (sym (front arcs (arcs_ok (zip (reverse A) Ys))) ∙ ap (λ xs. V (arcs_of (zip xs Ys) ++ CR)) (sym into_is))
+    curl_there : V (X1 ++ CR) ≡ curl_twist p (suc k) sign * V (arcs_of (zip into (reverse out)) ++ CR) % p.modulus
+    curl_there =
+        curl_at_stub p free k sign into out M few_k long_into long_out long_M X1 CR is_told ok_CR twice S D lg numbered l0 f0 is_projector long_stub OB w stands
+        (stubs.alone p R new after_is sizes_R colours has (side sign) (side_once sign)) walk plain into_is base_are no_high
+        (λ z h. (let a = into_clear z h in let b = out_clear z h in let d = CR_clear z h in omega (arith, a, b, d))) low_strands (λ ns ok low. front ns ok)
 
     -- ---- the arcs
     abbrev Pe : Bool → List (ℕ × ℕ)
@@ -519,7 +476,7 @@ module _ (p : Parameters) (items : List Item) (pd : IsPairedDiagram items) (e : 
     pub tall_edge : coloured p after colours ≡ curl_twist p c sign * coloured p items colours % p.modulus
     tall_edge =
         cables.curled_coloured p items pd e has_e sign colours room after_is has (curl_twist p c sign) (is_plus sign)
-        (curls.curl_counts p free k sign into out M few_k long_into long_out long_M X1 CR is_told ok_CR twice Z (ap (λ ns. V (ns ++ CR)) told ∙ absorbed)
+        (curl_there
         ∙ ap₂ (λ j ps. curl_twist p j sign * V (arcs_of ps ++ CR) % p.modulus) (sym tall_k) (pairs_are sign ∙ arcs_are sign))
 
   -- A CURL ON AN EDGE WITHOUT A BOX

@@ -21,6 +21,7 @@ pub mod EdgeLetters
 pub mod EdgeSteps
 pub mod BoxSteps
 pub mod StubWords
+pub mod StubCurls
 pub mod UndoneBundles
 pub mod UncurledWalks
 pub mod UndoneWalks

@@ -1,11 +1,11 @@
 -- The crossing of a curl that CurlUndo takes, where the component has a colour from 2 on and the edge at which its strands come in has no box: the twist
 -- walks along the component to the box, so the crossing counts as mu_n to the power of the curl times the strands.
-use Rattle.std.proofs.Common.{◌≡◌, ◌≢◌, ℕ, zero, suc, ◌+◌, ◌-◌, ◌*◌, ◌/◌, ◌%◌, ◌^◌, ◌<◌, ◌≤◌, ◌==◌, ◌&&◌, ◌⊎◌, inl, inr, nat_le, nat_lt, Bool, true, false, cond, List, [], ◌∷◌, ◌++◌, map, length, reverse, slice_index, refl, sym, ap, ap₂, ◌∙◌, arith, ⊎_elim, All, Some, subst, append_assoc}
-use Rattle.std.specs.List.{range_with_len, zip}
+use Rattle.std.proofs.Common.{◌≡◌, ◌≢◌, ℕ, zero, suc, ◌+◌, ◌*◌, ◌/◌, ◌%◌, ◌^◌, ◌<◌, ◌≤◌, ◌==◌, ◌&&◌, ◌⊎◌, inl, inr, nat_le, nat_lt, Bool, true, false, cond, List, [], ◌∷◌, ◌++◌, length, reverse, refl, sym, ap, ap₂, ◌∙◌, arith, ⊎_elim, All, Some, subst, append_assoc}
+use Rattle.std.specs.List.{zip}
 use Rattle.std.specs.Set.{is_member}
 use Rattle.std.proofs.lemmas.Bool.{cases_Bool, cases_eq, eq-eqb, eqb-true}
 use Rattle.std.proofs.lemmas.Bool.Decides.{nat_tests}
-use Rattle.std.proofs.lemmas.List.{get_or-reverse, length-reverse, map-append}
+use Rattle.std.proofs.lemmas.List.{length-reverse, map-append}
 use Rattle.std.proofs.lemmas.List.Elements.{All-append, All-cons, All-head, All-tail}
 use Rattle.graph_parts.specs.LeastNames.{least_label}
 use Rattle.graph_parts.specs.Walks.{Joined, back}
@@ -17,7 +17,6 @@ use Rattle.state_sums.specs.StateSums.{value}
 use Rattle.root_quantum.specs.Parameters.{Parameters}
 use Rattle.root_quantum.specs.QuantumNumbers.{inverse_root, loop_value}
 use Rattle.strand_algebra.specs.Projectors.{IsProjector}
-use Rattle.strand_words.specs.Words.{Letter}
 use Rattle.piece_laws.specs.Arcs.{arcs_of}
 use Rattle.pd_reader.specs.declared.item.Item.{Item}
 use Rattle.pd_reader.specs.Items.{item_labels, HasItsSlots}
@@ -52,31 +51,23 @@ use Rattle.coloured_moves.proofs.StubItems.{half, halved, at_stub, at_stub_is, s
 use Rattle.coloured_moves.proofs.StubNames.{kept_stubs, Straight, stub_label, stub_low, stub_once, stub_nodes_times, stub_sum_none}
 use Rattle.coloured_moves.proofs.Tests.{one_if, one_apart, one_most, one_same, one_shown}
 use Rattle.coloured_moves.proofs.TurnedBoxes.{boxes_ok}
-use Rattle.coloured_curls.specs.Boxes.{letter_nodes, names_behind}
-use Rattle.coloured_curls.proofs.AbsorbedTwists.{count}
 use Rattle.coloured_curls.proofs.BoxedEdges.{split_at}
 use Rattle.coloured_curls.proofs.CutStubs.{joined_in}
 use Rattle.coloured_curls.proofs.EdgeLetters.{AreNumbered, IsHigh}
-use Rattle.coloured_curls.proofs.LetterSteps.{AreStubs, weight}
+use Rattle.coloured_curls.proofs.LetterSteps.{AreStubs}
+use Rattle.coloured_curls.proofs.StubCurls.{curl_at_stub}
 use Rattle.coloured_curls.proofs.StubWords as words
 use Rattle.coloured_curls.proofs.UncurledWalks as walks
 use Rattle.coloured_curls.proofs.UncurledWalks.{each_dropped}
 use Rattle.coloured_curls.proofs.UndoneBundles as b
 use Rattle.coloured_curls.proofs.UndoneBundles.{sign_at}
 use Rattle.coloured_curls.proofs.CurlTwists as curls
-use Rattle.coloured_curls.proofs.GridCounts.{among}
-use Rattle.coloured_curls.proofs.HighTwists.{renumbered}
-use Rattle.coloured_curls.proofs.LetterCounts.{letter_counts}
-use Rattle.coloured_curls.proofs.LetterNets.{AreAmong}
-use Rattle.coloured_curls.proofs.LetterWords.{AreLetters, are_among}
-use Rattle.coloured_curls.proofs.PieceCounts.{same_range}
-use Rattle.coloured_curls.proofs.RenumberedLetters.{arcs_times, given_range, letters_ok}
+use Rattle.coloured_curls.proofs.RenumberedLetters.{arcs_times}
 use Rattle.coloured_curls.proofs.StubWords.{short_twist, twist_letters}
 use Rattle.cable_crossings.proofs.ToldCrossings.{IsTold}
 use Rattle.strand_words.specs.Grids.{crossed}
 use Rattle.cables.proofs.LabelNames.{zero_or_some}
 use Rattle.coloured_values.proofs.ColouredLaws.{each_label}
-use Rattle.std.proofs.lemmas.List.FromFn.{length-map-range_with_len}
 
 module _ (p : Parameters) (items : List Item) (is : IsDiagram items) (c : ℕ) (here : List ℕ) (found : crossing_at items c ≡ Some here) (s : ℕ) (low_s : s < 4) (test : is_curl here s ≡ true) (colours : List ℕ) (has : HasColours items colours)
     (projectors : (l : ℕ) → is_boxed items colours l ≡ true → HasProjector p (colour_of items colours l)) (free_x : is_boxed items colours (slot here s) ≡ false)
@@ -602,22 +593,6 @@ module _ (p : Parameters) (items : List Item) (is : IsDiagram items) (c : ℕ) (
   long_l0 : (z : ℕ) → half z ≡ l0 → length (at_stub S z) ≡ suc k
   long_l0 z h = (b.long_at p items is c here found s low_s test colours has projectors free_x) z ∙ ap colour h ∙ colour_l0
 
-  -- ---- the twist
-  abbrev t : List Letter
-  t = words.u p free sign S D lg numbered l0 k f0 is_projector long_l0 OB w stands alone long_A from_l0 plain Ys long_Ys base_are no_high
-
-  abbrev tA : ℕ → ℕ
-  tA j = slice_index A (length A - 1 - j)
-
-  abbrev H : ℕ
-  H = 16 * 2000001
-
-  abbrev word : List Node
-  word = letter_nodes t tA H ++ arcs_of (zip (map (names_behind t tA H) (range_with_len 0 (length A))) Ys)
-
-  absorbed_there : W ((box ∷ (OB ++ word)) ++ N) ≡ weight p (is_plus sign) ^ count t * W ((box ∷ (OB ++ arcs_of (zip (reverse A) Ys))) ++ N) % p.modulus
-  absorbed_there = words.twist_counts p free sign S D lg numbered l0 k f0 is_projector long_l0 OB w stands alone long_A from_l0 plain Ys long_Ys base_are no_high
-
   -- from the diagram to the one without the crossing, beside nodes with low names
   front : (ns : List Node) → All IsNode ns → IsLow ns → W (ns ++ rest) ≡ W ((box ∷ (OB ++ ns)) ++ N)
   front ns ok low =
@@ -639,89 +614,10 @@ module _ (p : Parameters) (items : List Item) (is : IsDiagram items) (c : ℕ) (
       ∙ runs_exchanged p.modulus (loop_value p) free B1 (box ∷ []) (B2 ++ Z) ok_B1 ok_box (All-append IsNode B2 Z okB2 okZ)
       ∙ ap (λ xs. W (box ∷ xs)) (sym (append_assoc B1 B2 Z) ∙ sym (append_assoc OB ns N))
 
-  abbrev v0 : ℕ → ℕ
-  v0 = (curls.v p free k sign into out M few_k long_into long_out long_M X1 rest is_told (b.ok_rest p items is c here found s low_s test colours has projectors free_x) (b.twice p items is c here found s low_s test colours has projectors free_x)) 0
-
-  abbrev big : ℕ
-  big = (curls.big p free k sign into out M few_k long_into long_out long_M X1 rest is_told (b.ok_rest p items is c here found s low_s test colours has projectors free_x) (b.twice p items is c here found s low_s test colours has projectors free_x))
-
-  abbrev Z : ℕ
-  Z = W (arcs_of (zip into Ys) ++ rest)
-
-  strands_same : (j : ℕ) → j < length A → v0 j ≡ slice_index A (length A - 1 - j)
-  strands_same j l = (curls.in_at p free k sign into out M few_k long_into long_out long_M X1 rest is_told (b.ok_rest p items is c here found s low_s test colours has projectors free_x) (b.twice p items is c here found s low_s test colours has projectors free_x)) j (let q = long_A in omega (arith, q, l)) ∙ ap (λ xs. slice_index xs j) into_is ∙ get_or-reverse A j 0 l
-
-  into_among : (z : ℕ) → among v0 0 (length A) z ≡ times_in into z
-  into_among z = ap (λ n. among v0 0 n z) long_A ∙ ap (λ xs. times_in xs z) (curls.into_list p free k sign into out M few_k long_into long_out long_M X1 rest is_told (b.ok_rest p items is c here found s low_s test colours has projectors free_x) (b.twice p items is c here found s low_s test colours has projectors free_x))
-
-  abbrev LA : List Node
-  LA = letter_nodes t v0 big ++ arcs_of (zip (map (names_behind t v0 big) (range_with_len 0 (length A))) Ys)
-
-  told : (curls.L p free k sign into out M few_k long_into long_out long_M X1 rest is_told (b.ok_rest p items is c here found s low_s test colours has projectors free_x) (b.twice p items is c here found s low_s test colours has projectors free_x)) ++ (curls.A p free k sign into out M few_k long_into long_out long_M X1 rest is_told (b.ok_rest p items is c here found s low_s test colours has projectors free_x) (b.twice p items is c here found s low_s test colours has projectors free_x)) ≡ LA
-  told =
-      ap (λ ns. letter_nodes t v0 big ++ ns)
-      ((curls.A_is p free k sign into out M few_k long_into long_out long_M X1 rest is_told (b.ok_rest p items is c here found s low_s test colours has projectors free_x) (b.twice p items is c here found s low_s test colours has projectors free_x))
-      ∙ ap (λ ys. arcs_of (zip (map (names_behind t v0 big) (range_with_len 0 (suc k))) ys)) (curls.leaves_list p free k sign into out M few_k long_into long_out long_M X1 rest is_told (b.ok_rest p items is c here found s low_s test colours has projectors free_x) (b.twice p items is c here found s low_s test colours has projectors free_x))
-      ∙ ap (λ n. arcs_of (zip (map (names_behind t v0 big) (range_with_len 0 n)) Ys)) (sym long_A))
-
-  letters_t : AreLetters p (is_plus sign) (length A) t
-  letters_t = subst (λ n. AreLetters p (is_plus sign) n t) (sym long_A) (twist_letters p (is_plus sign) (suc k) 0 k (suc k) (omega arith))
-
-  short_t : 2 * length t ≤ 112
-  short_t = short_twist p (is_plus sign) k few_k
-
-  ok_word : All IsNode word
-  ok_word = All-append IsNode (letter_nodes t tA H) (arcs_of (zip (map (names_behind t tA H) (range_with_len 0 (length A))) Ys)) (letters_ok t tA H) (arcs_ok (zip (map (names_behind t tA H) (range_with_len 0 (length A))) Ys))
-
-  arcs_low : IsLow (arcs_of (zip (reverse A) Ys))
-  arcs_low z one =
-      let b = arcs_times (reverse A) Ys z (long_Ys ∙ sym (length-reverse A ∙ long_A)) in
-      let d = ap (λ xs. times_in xs z) into_is in
-      let r = times-reverse z out in
-      ⊎_elim
-      (λ (n : times_in into z ≡ 0). low_stub v z small_v (omega (arith, one, b, d, r, n)))
-      (λ n. (let n1 = n.1 in low_stub u z small_u (omega (arith, n1))))
-      (zero_or_some (times_in into z))
-
-  into_clear : (z : ℕ) → IsHigh z → times_in into z ≡ 0
-  into_clear z h = clear_stub u z small_u h
-
-  out_clear : (z : ℕ) → IsHigh z → times_in out z ≡ 0
-  out_clear z h = clear_stub v z small_v h
-
-  among_t : AreAmong (length A) t
-  among_t = are_among p (is_plus sign) (length A) t letters_t
-
-  word_low : IsLow word
-  word_low z one =
-      let L1 : (ℕ → ℕ) → List ℕ = λ q. map q (range_with_len 0 (length A)) in
-      let T = names_behind t tA H in
-      let a = times_of-append z (letter_nodes t tA H) (arcs_of (zip (L1 T) Ys)) in
-      let b = arcs_times (L1 T) Ys z (long_Ys ∙ sym (length-map-range_with_len T 0 (length A) ∙ long_A)) in
-      let d = letter_counts (length A) t tA H z among_t in
-      let e : among tA 0 (length A) z ≡ times_in into z = ap (λ ns. times_in ns z) (sym (same_range v0 tA 0 (length A) (λ j lo hi. strands_same j (omega (arith, hi))))) ∙ into_among z in
-      let r = times-reverse z out in
-      ⊎_elim
-      (λ (n : times_in into z ≡ 0).
-      ⊎_elim
-      (λ (m : times_in out z ≡ 0). (let g = given_range t H z (omega (arith, one, a, b, d, e, r, n, m)) in let g1 = g.1 in let q = short_t in omega (arith, g1, q)))
-      (λ m. (let m1 = m.1 in low_stub v z small_v (omega (arith, m1))))
-      (zero_or_some (times_in out z)))
-      (λ n. (let n1 = n.1 in low_stub u z small_u (omega (arith, n1))))
-      (zero_or_some (times_in into z))
-
-  absorbed : W (LA ++ rest) ≡ weight p (is_plus sign) ^ count t * Z % p.modulus
-  absorbed =
-      renumbered p.modulus (loop_value p) free (length A) t among_t v0 tA strands_same Ys (long_Ys ∙ sym long_A) rest (b.ok_rest p items is c here found s low_s test colours has projectors free_x) big H
-      (λ z one. (curls.low_name p free k sign into out M few_k long_into long_out long_M X1 rest is_told (b.ok_rest p items is c here found s low_s test colours has projectors free_x) (b.twice p items is c here found s low_s test colours has projectors free_x)) z (let q = into_among z in let r = times-reverse z out in omega (arith, q, r, one)))
-      (λ z lo hi.
-      let h : IsHigh z = (lo, (let q = short_t in omega (arith, hi, q))) in
-      let q = into_among z in let r = times-reverse z out in let a = into_clear z h in let b = out_clear z h in let d = rest_clear z h in
-      omega (arith, q, r, a, b, d))
-      ∙ front word ok_word word_low
-      ∙ absorbed_there
-      ∙ ap (λ j. weight p (is_plus sign) ^ count t * j % p.modulus) (sym (front (arcs_of (zip (reverse A) Ys)) ok_arcs arcs_low) ∙ ap (λ xs. W (arcs_of (zip xs Ys) ++ rest)) (sym into_is))
-
   -- A CURL WHOSE STRANDS COME IN AT AN EDGE WITHOUT A BOX
-  pub walked : W ((b.X1 p items is c here found s low_s test colours has projectors free_x) ++ rest) ≡ curl_twist p (suc k) sign * W (arcs_of (zip into (reverse out)) ++ rest) % p.modulus
-  walked = (curls.curl_counts p free k sign into out M few_k long_into long_out long_M X1 rest is_told (b.ok_rest p items is c here found s low_s test colours has projectors free_x) (b.twice p items is c here found s low_s test colours has projectors free_x)) Z (ap (λ ns. W (ns ++ rest)) told ∙ absorbed)
+  pub walked : W (X1 ++ rest) ≡ curl_twist p (suc k) sign * W (arcs_of (zip into (reverse out)) ++ rest) % p.modulus
+  walked =
+      curl_at_stub p free k sign into out M few_k long_into long_out long_M X1 rest is_told (b.ok_rest p items is c here found s low_s test colours has projectors free_x) (b.twice p items is c here found s low_s test colours has projectors free_x) S D lg numbered l0 f0 is_projector long_l0 OB w stands alone from_l0 plain into_is base_are no_high
+      (λ z h. (let a = clear_stub u z small_u h in let d = clear_stub v z small_v h in let e = rest_clear z h in omega (arith, a, d, e)))
+      (λ z one. ⊎_elim (λ (n : times_in into z ≡ 0). low_stub v z small_v (omega (arith, one, n))) (λ n. (let n1 = n.1 in low_stub u z small_u (omega (arith, n1)))) (zero_or_some (times_in into z)))
+      front

@@ -2,7 +2,7 @@
 use Rattle.std.proofs.Common.{◌≡◌, ◌∙◌, inl, inr, ℕ, ◌+◌, ◌*◌, ◌%◌, ◌≤◌, Bool, true, false, List, [], ◌∷◌, ◌++◌, length, map, slice_index_or, All, Option, Some, None, Result, Ok, Err, refl, sym, ap, ap₂, subst, arith, add-one, append-nil}
 use Rattle.std.specs.List.{AllByRecursion}
 use Rattle.root_quantum.specs.Parameters.{Parameters, top_colour}
-use Rattle.root_quantum.specs.QuantumNumbers.{delta, loop_value}
+use Rattle.root_quantum.specs.QuantumNumbers.{delta, loop_value, twist}
 use Rattle.root_quantum.proofs.LawProofs.{delta_first_law}
 use Rattle.pd_reader.specs.declared.item.Item.{Item}
 use Rattle.pd_reader.specs.declared.item.Item.TheVariants as item
@@ -10,7 +10,7 @@ use Rattle.pd_reader.specs.Diagrams.{IsDiagram}
 use Rattle.planar_check.specs.declared.sign.Sign.{Sign}
 use Rattle.planar_check.specs.Components.{greatest, least_labels}
 use Rattle.cables.specs.Nets.{HasProjector}
-use Rattle.coloured_values.specs.Coloured.{coloured}
+use Rattle.coloured_values.specs.Coloured.{coloured, colour_of}
 use Rattle.coloured_values.specs.Laws.{HasColours}
 use Rattle.coloured_values.proofs.ColouredLaws.{added_component}
 use Rattle.frontier_laws.specs.Orders.{listed_of}
@@ -19,7 +19,7 @@ use Rattle.script_reader.specs.declared.step.Step.TheVariants.{R2, R2Undo, R3, C
 use Rattle.diagram_moves.specs.Anchors.{anchor_inside, applied_coloured, unless_anchored}
 use Rattle.diagram_moves.specs.Laws.{IsPairedDiagram}
 use Rattle.diagram_moves.specs.Moves.{move}
-use Rattle.diagram_moves.specs.Rewriting.{fresh}
+use Rattle.diagram_moves.specs.Rewriting.{slot, crossing_at, fresh}
 use Rattle.diagram_moves.specs.Scripts.{applied}
 use Rattle.diagram_moves.specs.Steps.{Answer, Moved}
 use Rattle.diagram_moves.proofs.Results as results
@@ -28,6 +28,8 @@ use Rattle.move_results.proofs.DiagramResults.{diagram_again, greatest_grows}
 use Rattle.coloured_moves.proofs.ColouredMoves.{coloured_push}
 use Rattle.coloured_moves.proofs.ColouredBigons.{coloured_bigon}
 use Rattle.coloured_moves.proofs.ColouredSlides.{coloured_slide}
+use Rattle.coloured_curls.proofs.AllCurls as all_curls
+use Rattle.coloured_curls.proofs.AllUndos as all_undos
 use Rattle.skein_network.proofs.ListColours.{not_refused}
 use Rattle.wrt_values.specs.Inverses.{inverses}
 use Rattle.wrt_values.specs.Values.{value_of}
@@ -45,9 +47,9 @@ use Rattle.script_values.specs.Refusals.{fault_of_move}
 use Rattle.script_values.specs.Scripts.{stepped, values}
 use Rattle.script_values.proofs.ColoursKept.{each_below, fit_kept}
 use Rattle.script_values.proofs.Moves.{coloured_move}
-use Rattle.script_lines.specs.Laws.{ColouredLinesLaw, IsColouredStart, coloured_line, keeps_line}
+use Rattle.script_lines.specs.Laws.{ColouredLinesLaw, IsColouredStart, IsTwistedLine, coloured_line, keeps_line}
 use Rattle.script_lines.proofs.Accepted.{judged_is, slide_or_move, told_stops, script_of, first_line, no_lines}
-use Rattle.script_lines.proofs.Following.{Follow, are_following, at_step}
+use Rattle.script_lines.proofs.Following.{AtStep, Follow, are_following, at_step}
 use Rattle.script_lines.proofs.ToldRefusals.{Tells, refusals_are_told}
 use Rattle.script_lines.proofs.ValuesExist.{and_Ok, has_projector, have_projectors}
 
@@ -180,7 +182,36 @@ module _ (p : Parameters) where
       ∙ ap (λ factor. coloured_line p last * factor % p.modulus) (delta_first_law p).1
       ∙ ap (λ product. product % p.modulus) turned
 
--- EACH LINE IS A VALUE WITH COLOURS; R2, R2UNDO AND R3 REPEAT THE ONE BEFORE, AND A BLOW-UP MULTIPLIES IT
+  -- a curl multiplies it by the twist of its component's colour
+  line_curled : (last next : ColouredDiagram) (e : ℕ) (sign : Sign) (steps : List Step) → IsColouredStart p last (Curl e sign ∷ steps) → (made : IsStep last (Curl e sign) next) → HasInverses p next →
+      coloured_line p next ≡ twist p (colour_of last.items last.colours e) made.moved.factor.curl * coloured_line p last % p.modulus
+  line_curled last next e sign steps start made has =
+      let room = start.room in
+      let is = same_items last next (Curl e sign) made (append-nil last.colours) in
+      let exist = projectors last.colours (subst (HasInverses p) is has) in
+      ap (coloured_line p) is ∙ all_curls.curl p last.items e sign made.moved last.colours start.diagram (omega (arith, room)) (has_colours last start.fit) exist made.is_moved
+
+  line_uncurled : (last next : ColouredDiagram) (c : ℕ) (here : List ℕ) (steps : List Step) → crossing_at last.items c ≡ Some here → IsColouredStart p last (CurlUndo c ∷ steps) → (made : IsStep last (CurlUndo c) next) → HasInverses p next →
+      coloured_line p next ≡ twist p (colour_of last.items last.colours (slot here 0)) made.moved.factor.curl * coloured_line p last % p.modulus
+  line_uncurled last next c here steps at start made has =
+      let is = same_items last next (CurlUndo c) made (append-nil last.colours) in
+      let exist = projectors last.colours (subst (HasInverses p) is has) in
+      ap (coloured_line p) is ∙ all_undos.curl_undo p last.items c here made.moved last.colours start.diagram (has_colours last start.fit) exist at made.free made.is_moved
+
+  -- the line behind a step whose value is such a multiple
+  twisted_line : (first : ColouredDiagram) (diagrams : List ColouredDiagram) (lines : List ℕ) (k e : ℕ) (step : Step) (steps : List Step) → lines ≡ map (coloured_line p) diagrams →
+      (at : AtStep IsStep (IsColouredStart p) start_again (coloured_line p) (HasInverses p) k step steps diagrams) →
+      coloured_line p at.next ≡ twist p (colour_of at.last.items at.last.colours e) at.is_step.moved.factor.curl * coloured_line p at.last % p.modulus →
+      IsTwistedLine p (slice_index_or diagrams k first) e step (slice_index_or lines k 0) (slice_index_or lines (k + 1) 0)
+  twisted_line first diagrams lines k e step steps are at is =
+      let turn : ℕ = twist p (colour_of at.last.items at.last.colours e) at.is_step.moved.factor.curl in
+      let line : ℕ → ℕ = λ j. slice_index_or (map (coloured_line p) diagrams) j 0 in
+      let F : List ℕ → Type 0 = λ ls. slice_index_or ls (k + 1) 0 ≡ turn * slice_index_or ls k 0 % p.modulus in
+      let multiplied : F lines = subst F (sym are) (ap line (add-one k) ∙ at.next_value ∙ is ∙ ap (λ n. turn * n % p.modulus) (sym at.last_value)) in
+      let G : ColouredDiagram → Type 0 = λ last. IsTwistedLine p last e step (slice_index_or lines k 0) (slice_index_or lines (k + 1) 0) in
+      subst G (sym (at.last_is first)) (at.is_step.moved, at.is_step.is_moved, multiplied)
+
+-- EACH LINE IS A VALUE WITH COLOURS; R2, R2UNDO AND R3 REPEAT THE ONE BEFORE, A BLOW-UP MULTIPLIES IT BY DELTA, AND A CURL BY ITS FACTOR
 pub coloured_lines_law : ColouredLinesLaw
 coloured_lines_law p first steps lines start h =
     let whole = script_of p (Coloured first) steps lines h in
@@ -206,4 +237,12 @@ coloured_lines_law p first steps lines start h =
           ∙ at.next_value
           ∙ line_multiplied p at.last at.next sign behind at.starts at.is_step at.next_has
           ∙ ap (λ n. loop_value p * n % p.modulus) (sym at.last_value));
+      curled = λ before behind e sign is.
+          let at = at_step IsStep (IsColouredStart p) (start_again p) (coloured_line p) (HasInverses p) first before behind (Curl e sign) seen.diagrams (subst S is start) (subst W is seen.follow) valued.1 in
+          twisted_line p first seen.diagrams lines (length before) e (Curl e sign) behind valued.0 at (line_curled p at.last at.next e sign behind at.starts at.is_step at.next_has);
+      uncurled = λ before behind c is.
+          let at = at_step IsStep (IsColouredStart p) (start_again p) (coloured_line p) (HasInverses p) first before behind (CurlUndo c) seen.diagrams (subst S is start) (subst W is seen.follow) valued.1 in
+          λ here there.
+          twisted_line p first seen.diagrams lines (length before) (slot here 0) (CurlUndo c) behind valued.0 at
+          (line_uncurled p at.last at.next c here behind (ap (λ (last : ColouredDiagram). crossing_at last.items c) (sym (at.last_is first)) ∙ there) at.starts at.is_step at.next_has);
     }

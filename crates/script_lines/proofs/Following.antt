@@ -48,6 +48,7 @@ module _ {D : Type 0} (IsStep : D → Step → D → Type 0) where
       pub next : D
       pub is_step : IsStep last step next
       pub starts : Starts last (step ∷ behind)
+      pub last_is : (other : D) → slice_index_or diagrams k other ≡ last
       pub last_value : slice_index_or (map value diagrams) k 0 ≡ value last
       pub next_value : slice_index_or (map value diagrams) (suc k) 0 ≡ value next
       pub next_has : Has next
@@ -62,6 +63,7 @@ module _ {D : Type 0} (IsStep : D → Step → D → Type 0) where
           next = h.0;
           is_step = h.2;
           starts = starts;
+          last_is = λ other. ap (λ ds. slice_index_or ds 0 other) all;
           last_value = ap (λ ds. slice_index_or (map value ds) 0 0) all;
           next_value = ap (λ ds. slice_index_or (map value ds) 1 0) all;
           next_has = (subst (AllByRecursion Has) all have).1.0;
@@ -73,6 +75,7 @@ module _ {D : Type 0} (IsStep : D → Step → D → Type 0) where
           next = rest.next;
           is_step = rest.is_step;
           starts = rest.starts;
+          last_is = λ other. ap (λ ds. slice_index_or ds (suc (length before)) other) h.3 ∙ rest.last_is other;
           last_value = ap (λ ds. slice_index_or (map value ds) (suc (length before)) 0) h.3 ∙ rest.last_value;
           next_value = ap (λ ds. slice_index_or (map value ds) (suc (suc (length before))) 0) h.3 ∙ rest.next_value;
           next_has = rest.next_has;

@@ -5,9 +5,10 @@
 --     AreBracketLines p items steps lines        the lines of a script without framings
 --     AreSurgeryLines p framed steps lines       the lines of a script with framings
 --     AreColouredLines p first steps lines       the lines of a script with colours
-use Rattle.std.specs.Prelude.{◌≡◌, ℕ, ◌+◌, ◌*◌, ◌%◌, ◌<◌, ◌≤◌, Bool, true, false, List, ◌∷◌, ◌++◌, length, map, slice_index, Ok}
+--     IsTwistedLine p last edge step line next   a line is the one before it times the factor of a curl
+use Rattle.std.specs.Prelude.{◌≡◌, ℕ, ◌+◌, ◌*◌, ◌%◌, ◌<◌, ◌≤◌, Bool, true, false, List, ◌∷◌, ◌++◌, length, map, slice_index, slice_index_or, Some, Ok}
 use Rattle.root_quantum.specs.Parameters.{Parameters}
-use Rattle.root_quantum.specs.QuantumNumbers.{loop_value}
+use Rattle.root_quantum.specs.QuantumNumbers.{loop_value, twist}
 use Rattle.pd_reader.specs.declared.item.Item.{Item}
 use Rattle.pd_reader.specs.Diagrams.{labels, IsDiagram}
 use Rattle.pd_reader.specs.Items.{item_labels}
@@ -15,11 +16,13 @@ use Rattle.planar_check.specs.declared.sign.Sign.{Sign}
 use Rattle.planar_check.specs.Components.{greatest}
 use Rattle.planar_check.specs.Framings.{FramedDiagram, IsFramed}
 use Rattle.diagram_brackets.specs.Brackets.{bracket}
-use Rattle.coloured_values.specs.Coloured.{coloured}
+use Rattle.coloured_values.specs.Coloured.{coloured, colour_of}
 use Rattle.coloured_values.specs.Surgery.{surgery}
 use Rattle.script_reader.specs.declared.step.Step.{Step}
 use Rattle.script_reader.specs.declared.step.Step.TheVariants.{R2, R2Undo, R3, Curl, CurlUndo, BlowUp, Slide}
 use Rattle.diagram_moves.specs.Laws.{IsPairedDiagram}
+use Rattle.diagram_moves.specs.Moves.{move}
+use Rattle.diagram_moves.specs.Rewriting.{slot, crossing_at}
 use Rattle.diagram_moves.specs.Scripts.{played}
 use Rattle.diagram_moves.specs.Steps.{Moved}
 use Rattle.diagram_moves.specs.Values.{factor_value}
@@ -78,7 +81,14 @@ keeps_line (CurlUndo crossing) = false
 keeps_line (BlowUp sign) = false
 keeps_line (Slide edge along) = false
 
--- Each line is the value of its diagram with its colours; behind R2, R2Undo and R3 the line stands again, and a blow-up multiplies it by delta.
+-- Behind a step with the last diagram the line before is multiplied by mu_n to the power of the curl of the step's factor, modulo m; n is the colour of the
+-- component of this edge of the last diagram.
+abbrev pub IsTwistedLine : Parameters → ColouredDiagram → ℕ → Step → ℕ → ℕ → Type 0
+IsTwistedLine p last edge step line next =
+    (moved : Moved) × (move last.items step ≡ Ok moved) × (next ≡ twist p (colour_of last.items last.colours edge) moved.factor.curl * line % p.modulus)
+
+-- Each line is the value of its diagram with its colours; behind R2, R2Undo and R3 the line stands again, a blow-up multiplies it by delta, and a curl that comes
+-- or goes on a component of colour n by mu_n to the power of its factor's curl.
 pub record AreColouredLines (p : Parameters) (first : ColouredDiagram) (steps : List Step) (lines : List ℕ) : Type 0 where
   -- the first diagram and what each step gives
   pub diagrams : List ColouredDiagram
@@ -86,6 +96,13 @@ pub record AreColouredLines (p : Parameters) (first : ColouredDiagram) (steps : 
   pub values : lines ≡ map (coloured_line p) diagrams
   pub repeated : (before behind : List Step) (step : Step) → keeps_line step ≡ true → steps ≡ before ++ step ∷ behind → slice_index lines (length before + 1) ≡ slice_index lines (length before)
   pub multiplied : (before behind : List Step) (sign : Sign) → steps ≡ before ++ BlowUp sign ∷ behind → slice_index lines (length before + 1) ≡ loop_value p * slice_index lines (length before) % p.modulus
+  -- the curl is made with the diagram behind the steps before it
+  pub curled : (before behind : List Step) (e : ℕ) (sign : Sign) → steps ≡ before ++ Curl e sign ∷ behind →
+      (let last : ColouredDiagram = slice_index_or diagrams (length before) first in IsTwistedLine p last e (Curl e sign) (slice_index lines (length before)) (slice_index lines (length before + 1)))
+  -- and so is its undoing; all edges at its crossing are on one component
+  pub uncurled : (before behind : List Step) (c : ℕ) → steps ≡ before ++ CurlUndo c ∷ behind →
+      (let last : ColouredDiagram = slice_index_or diagrams (length before) first in (here : List ℕ) → crossing_at last.items c ≡ Some here →
+      IsTwistedLine p last (slot here 0) (CurlUndo c) (slice_index lines (length before)) (slice_index lines (length before + 1)))
 
 -- The colours fit, and there is room for the labels of all steps.
 pub record IsColouredStart (p : Parameters) (first : ColouredDiagram) (steps : List Step) : Type 0 where

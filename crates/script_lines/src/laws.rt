@@ -13,8 +13,9 @@ pub fn surgery_lines()
     ensures { SurgeryLinesLaw }
 {}
 
-/// With colours each line of a script is the value of its diagram with its colours, each `R2` and `R3` repeats the line before it, and
-/// each blow-up multiplies it by delta, modulo m.
+/// With colours each line of a script is the value of its diagram with its colours; each `R2`, `R2Undo` and `R3` repeats the line before
+/// it, each blow-up multiplies it by delta, and each `Curl` and `CurlUndo` on a component of colour n by `mu_n` to the power of the curl
+/// of the step's factor, modulo m.
 pub fn coloured_lines()
     ensures { ColouredLinesLaw }
 {}

@@ -84,8 +84,9 @@ abbrev pub ReportsAreOfBraidTraces : Type 0
 ReportsAreOfBraidTraces = (p : Parameters) (braid : BraidWord) (report : List ℕ) → braid_report p braid ≡ Ok report → IsReportOf (bracket p (closed braid)) report
 
 -- the lines of a script follow from one another as its steps say: without colours and framings each is its step's factor times the one
--- before, modulo m; with colours a Reidemeister move repeats the one before, and a blow-up multiplies it by delta; with framings a
--- blow-up repeats it
+-- before, modulo m; with colours Reidemeister's second and third moves repeat the one before, a blow-up multiplies it by delta, and a
+-- curl on a component of colour n, made or undone, by mu_n to the power of the curl of the step's factor; with framings a blow-up
+-- repeats it
 abbrev pub AreScriptLines : Parameters → DiagramValues → ScriptParts → List ℕ → Type 0
 AreScriptLines p Brackets script residues = AreBracketLines p script.diagram script.steps residues
 AreScriptLines p (Coloured colours) script residues = AreColouredLines p (record { items = script.diagram; colours = colours }) script.steps residues

@@ -46,8 +46,10 @@ pub fn reports_are_of_braid_traces()
     ensures { ReportsAreOfBraidTraces }
 {}
 
-/// A report of a script has a line for each of its diagrams. Without framings a line is the bracket, and each but the first is the
-/// step's factor times the one before it, modulo m; with framings a line is the surgery value, and each blow-up repeats the line
+/// A report of a script has a line for each of its diagrams. Without colours and framings a line is the bracket, and each but the first is the
+/// step's factor times the one before it, modulo m. With colours a line is the value with these; each `R2`, `R2Undo` and `R3` repeats
+/// the line before it, each blow-up multiplies it by delta, and each `Curl` and `CurlUndo` on a component of colour n by `mu_n` to the
+/// power of the curl of the step's factor, modulo m. With framings a line is the surgery value, and each blow-up repeats the line
 /// before it.
 pub fn reports_are_of_scripts()
     ensures { ReportsAreOfScripts }
