@@ -1,6 +1,6 @@
 -- A curl on a Loop whose strands have a box: the nodes behind the curl are the crossing in the place of the loop, the box of its label, and the nodes
 -- from before without the loop's own box.
-use Rattle.std.proofs.Common.{◌≡◌, ◌≢◌, ℕ, ◌+◌, ◌==◌, Bool, true, false, cond, List, [], ◌∷◌, ◌++◌, map, length, slice_index, refl, sym, ap, ap₂, ◌∙◌, arith, ⊎_elim, subst}
+use Rattle.std.proofs.Common.{◌≡◌, ◌≢◌, ℕ, ◌+◌, ◌==◌, Bool, true, false, cond, List, [], ◌∷◌, ◌++◌, map, length, refl, sym, ap, ap₂, ◌∙◌, arith, ⊎_elim, subst}
 use Rattle.std.specs.List.{AllByRecursion}
 use Rattle.std.specs.List.Sorted.{IsPermutation}
 use Rattle.std.specs.Set.{is_member}
@@ -20,12 +20,12 @@ use Rattle.planar_check.specs.declared.sign.Sign.{Sign}
 use Rattle.cables.specs.CableNodes.{box_node}
 use Rattle.cables.specs.Strands.{Strands}
 use Rattle.cables.specs.Cables.{start, count_placed, cable_nodes, loop_nodes, as_net}
-use Rattle.cables.proofs.Groups.{crossing_same, loop_same}
+use Rattle.cables.proofs.Groups.{loop_same}
 use Rattle.diagram_moves.specs.Moves.{curl_slots, curled_loop}
 use Rattle.diagram_moves.specs.Rewriting.{crossing_labels}
 use Rattle.diagram_moves.proofs.Paired.{loop_labels}
-use Rattle.coloured_moves.proofs.CurledLoops.{curl_stubs, stubbed_curled, told}
-use Rattle.coloured_moves.proofs.StubItems.{stubbed, seen_after, at_stub, stub_crossing, stub_nodes, first_labels, boxes_of, moved_out, same_lists, split, ungrouped_boxes}
+use Rattle.coloured_moves.proofs.CurledLoops.{curl_stubs, numbers, same_crossing, stubbed_curled, told}
+use Rattle.coloured_moves.proofs.StubItems.{stubbed, seen_after, stub_crossing, stub_nodes, first_labels, boxes_of, moved_out, same_lists, split, ungrouped_boxes}
 
 abbrev U : List Node → List Node
 U = map without_group
@@ -36,21 +36,6 @@ module _ (p : Parameters) (S : Strands) (e : ℕ) where
   bare n g i lg [] = []
   bare n g i lg (item.X slots ∷ rest) = stub_crossing p S g i slots ++ bare (n + 1) (g + 1) (i + 1) lg rest
   bare n g i lg (item.Loop l ∷ rest) = cond (l == e) (stub_nodes p S [] n g (i + 1) (lg + 1) rest) (loop_nodes S lg (S.first l) ++ bare n g (i + 1) (lg + 1) rest)
-
-  same_crossing : (g h i : ℕ) (slots : List ℕ) → U (stub_crossing p S g i slots) ≡ U (stub_crossing p S h i slots)
-  same_crossing g h i slots =
-      crossing_same p g h i (at_stub S (slice_index slots 0)) (at_stub S (slice_index slots 1)) (at_stub S (slice_index slots 2)) (at_stub S (slice_index slots 3))
-
-  numbers : (D : List Item) (n g i lg n' g' lg' : ℕ) → U (stub_nodes p S [] n g i lg D) ≡ U (stub_nodes p S [] n' g' i lg' D)
-  numbers [] n g i lg n' g' lg' = refl
-  numbers (item.X slots ∷ rest) n g i lg n' g' lg' =
-      map-append without_group (stub_crossing p S g i slots) (stub_nodes p S [] (n + 1) (g + 1) (i + 1) lg rest)
-      ∙ ap₂ (λ xs ys. xs ++ ys) (same_crossing g g' i slots) (numbers rest (n + 1) (g + 1) (i + 1) lg (n' + 1) (g' + 1) lg')
-      ∙ sym (map-append without_group (stub_crossing p S g' i slots) (stub_nodes p S [] (n' + 1) (g' + 1) (i + 1) lg' rest))
-  numbers (item.Loop l ∷ rest) n g i lg n' g' lg' =
-      map-append without_group (loop_nodes S lg (S.first l)) (stub_nodes p S [] n g (i + 1) (lg + 1) rest)
-      ∙ ap₂ (λ xs ys. xs ++ ys) (loop_same p S lg lg' (S.first l)) (numbers rest n g (i + 1) (lg + 1) n' g' (lg' + 1))
-      ∙ sym (map-append without_group (loop_nodes S lg' (S.first l)) (stub_nodes p S [] n' g' (i + 1) (lg' + 1) rest))
 
   -- the loop's own nodes come to the front
   loop_out : (D : List Item) (n g i lg : ℕ) → is_member ◌==◌ (loop_labels D) e ≡ true → IsPermutation (U (stub_nodes p S [] n g i lg D)) (U (loop_nodes S 0 (S.first e)) ++ U (bare n g i lg D))
@@ -95,7 +80,7 @@ module _ (p : Parameters) (S : Strands) (e : ℕ) where
       let Q : List Node → Type 0 = λ ns. IsPermutation (U (C g) ++ U later) (K ++ ns) in (
         r.0,
         subst P (sym (map-append without_group (C g) later))
-            (subst Q (ap (λ ns. ns ++ U new) (same_crossing g g' i slots) ∙ sym (map-append without_group (C g') new))
+            (subst Q (ap (λ ns. ns ++ U new) (same_crossing p S g g' i slots) ∙ sym (map-append without_group (C g') new))
             (moved_out (U (C g)) K (U later) (U new) r.1)),
       )
   crossing_out ws (item.Loop l ∷ rest) n g i lg n' g' lg' there =
@@ -109,7 +94,7 @@ module _ (p : Parameters) (S : Strands) (e : ℕ) where
       let later = stub_nodes p S [] (n + 1) (g + 1) (i + 1) lg rest in
       subst W (sym t) (
         i,
-        same_lists _ _ (map-append without_group (stub_crossing p S g i ws) later ∙ ap₂ (λ xs ys. xs ++ ys) (same_crossing g 0 i ws) (numbers rest (n + 1) (g + 1) (i + 1) lg n' g' (lg' + 1))),
+        same_lists _ _ (map-append without_group (stub_crossing p S g i ws) later ∙ ap₂ (λ xs ys. xs ++ ys) (same_crossing p S g 0 i ws) (numbers p S rest (n + 1) (g + 1) (i + 1) lg n' g' (lg' + 1))),
       ))
       (λ t.
       let later = stub_nodes p S [] n g (i + 1) (lg + 1) (curled_loop e ws rest) in

@@ -31,13 +31,13 @@ use Rattle.coloured_moves.proofs.Tests.{clash}
 abbrev pub U : List Node → List Node
 U = map without_group
 
--- ---- the crossing in the place of the loop comes to the front
-module _ (p : Parameters) (S : Strands) (e : ℕ) (short : loop_nodes S 0 (S.first e) ≡ []) (ws : List ℕ) (K : List Node) (crossing : (g i : ℕ) → U (stub_crossing p S g i ws) ≡ K) where
-  same_crossing : (g h i : ℕ) (slots : List ℕ) → U (stub_crossing p S g i slots) ≡ U (stub_crossing p S h i slots)
+-- ---- the groups of crossings and loops, which no value depends on
+module _ (p : Parameters) (S : Strands) where
+  pub same_crossing : (g h i : ℕ) (slots : List ℕ) → U (stub_crossing p S g i slots) ≡ U (stub_crossing p S h i slots)
   same_crossing g h i slots =
       crossing_same p g h i (at_stub S (slice_index slots 0)) (at_stub S (slice_index slots 1)) (at_stub S (slice_index slots 2)) (at_stub S (slice_index slots 3))
 
-  numbers : (D : List Item) (n g i lg n' g' lg' : ℕ) → U (stub_nodes p S [] n g i lg D) ≡ U (stub_nodes p S [] n' g' i lg' D)
+  pub numbers : (D : List Item) (n g i lg n' g' lg' : ℕ) → U (stub_nodes p S [] n g i lg D) ≡ U (stub_nodes p S [] n' g' i lg' D)
   numbers [] n g i lg n' g' lg' = refl
   numbers (item.X slots ∷ rest) n g i lg n' g' lg' =
       map-append without_group (stub_crossing p S g i slots) (stub_nodes p S [] (n + 1) (g + 1) (i + 1) lg rest)
@@ -48,6 +48,8 @@ module _ (p : Parameters) (S : Strands) (e : ℕ) (short : loop_nodes S 0 (S.fir
       ∙ ap₂ (λ xs ys. xs ++ ys) (loop_same p S lg lg' (S.first l)) (numbers rest n g (i + 1) (lg + 1) n' g' (lg' + 1))
       ∙ sym (map-append without_group (loop_nodes S lg' (S.first l)) (stub_nodes p S [] n' g' (i + 1) (lg' + 1) rest))
 
+-- ---- the crossing in the place of the loop comes to the front
+module _ (p : Parameters) (S : Strands) (e : ℕ) (short : loop_nodes S 0 (S.first e) ≡ []) (ws : List ℕ) (K : List Node) (crossing : (g i : ℕ) → U (stub_crossing p S g i ws) ≡ K) where
   pub stub_perm : (D : List Item) (n g i lg n' g' lg' : ℕ) → is_member ◌==◌ (loop_labels D) e ≡ true →
       IsPermutation (U (stub_nodes p S [] n g i lg (curled_loop e ws D))) (K ++ U (stub_nodes p S [] n' g' i lg' D))
   stub_perm [] n g i lg n' g' lg' there = absurd (grind (arith, there))
@@ -58,7 +60,7 @@ module _ (p : Parameters) (S : Strands) (e : ℕ) (short : loop_nodes S 0 (S.fir
       let P : List Node → Type 0 = λ ns. IsPermutation ns (K ++ U (C g' ++ old)) in
       let Q : List Node → Type 0 = λ ns. IsPermutation (U (C g) ++ U later) (K ++ ns) in
       subst P (sym (map-append without_group (C g) later))
-      (subst Q (ap (λ ns. ns ++ U old) (same_crossing g g' i slots) ∙ sym (map-append without_group (C g') old))
+      (subst Q (ap (λ ns. ns ++ U old) (same_crossing p S g g' i slots) ∙ sym (map-append without_group (C g') old))
       (moved_out (U (C g)) K (U later) (U old) (stub_perm rest (n + 1) (g + 1) (i + 1) lg (n' + 1) (g' + 1) lg' there)))
   stub_perm (item.Loop l ∷ rest) n g i lg n' g' lg' there =
       let L : ℕ → List Node = λ h. loop_nodes S h (S.first l) in
@@ -72,7 +74,7 @@ module _ (p : Parameters) (S : Strands) (e : ℕ) (short : loop_nodes S 0 (S.fir
       subst W (sym t)
       (same_lists _ _
       (map-append without_group (stub_crossing p S g i ws) later
-      ∙ ap₂ (λ xs ys. xs ++ ys) (crossing g i) (numbers rest (n + 1) (g + 1) (i + 1) lg n' g' (lg' + 1))
+      ∙ ap₂ (λ xs ys. xs ++ ys) (crossing g i) (numbers p S rest (n + 1) (g + 1) (i + 1) lg n' g' (lg' + 1))
       ∙ ap (λ ns. K ++ ns) (sym (map-append without_group (L lg') old ∙ ap (λ ns. ns ++ U old) gone)))))
       (λ t.
       let later = stub_nodes p S [] n g (i + 1) (lg + 1) (curled_loop e ws rest) in

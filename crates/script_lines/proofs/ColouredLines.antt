@@ -1,8 +1,8 @@
 -- The lines of a script with colours.
-use Rattle.std.proofs.Common.{◌≡◌, ◌∙◌, inl, inr, ℕ, ◌+◌, ◌*◌, ◌%◌, ◌≤◌, Bool, true, false, List, [], ◌∷◌, ◌++◌, length, map, slice_index_or, All, Option, Some, None, Result, Ok, Err, refl, sym, ap, ap₂, subst, arith, add-one, append-nil}
+use Rattle.std.proofs.Common.{◌≡◌, ◌∙◌, inl, inr, ℕ, ◌+◌, ◌*◌, ◌%◌, ◌≤◌, true, List, [], ◌∷◌, ◌++◌, length, map, slice_index_or, Option, Some, None, Result, Ok, Err, refl, sym, ap, ap₂, subst, arith, add-one, append-nil}
 use Rattle.std.specs.List.{AllByRecursion}
 use Rattle.root_quantum.specs.Parameters.{Parameters, top_colour}
-use Rattle.root_quantum.specs.QuantumNumbers.{delta, loop_value, twist}
+use Rattle.root_quantum.specs.QuantumNumbers.{loop_value, twist}
 use Rattle.root_quantum.proofs.LawProofs.{delta_first_law}
 use Rattle.pd_reader.specs.declared.item.Item.{Item}
 use Rattle.pd_reader.specs.declared.item.Item.TheVariants as item
@@ -10,13 +10,13 @@ use Rattle.pd_reader.specs.Diagrams.{IsDiagram}
 use Rattle.planar_check.specs.declared.sign.Sign.{Sign}
 use Rattle.planar_check.specs.Components.{greatest, least_labels}
 use Rattle.cables.specs.Nets.{HasProjector}
-use Rattle.coloured_values.specs.Coloured.{coloured, colour_of}
+use Rattle.coloured_values.specs.Coloured.{colour_of}
 use Rattle.coloured_values.specs.Laws.{HasColours}
 use Rattle.coloured_values.proofs.ColouredLaws.{added_component}
 use Rattle.frontier_laws.specs.Orders.{listed_of}
 use Rattle.script_reader.specs.declared.step.Step.{Step}
 use Rattle.script_reader.specs.declared.step.Step.TheVariants.{R2, R2Undo, R3, Curl, CurlUndo, BlowUp, Slide}
-use Rattle.diagram_moves.specs.Anchors.{anchor_inside, applied_coloured, unless_anchored}
+use Rattle.diagram_moves.specs.Anchors.{anchor_inside, unless_anchored}
 use Rattle.diagram_moves.specs.Laws.{IsPairedDiagram}
 use Rattle.diagram_moves.specs.Moves.{move}
 use Rattle.diagram_moves.specs.Rewriting.{slot, crossing_at, fresh}
@@ -32,7 +32,6 @@ use Rattle.coloured_curls.proofs.AllCurls as all_curls
 use Rattle.coloured_curls.proofs.AllUndos as all_undos
 use Rattle.skein_network.proofs.ListColours.{not_refused}
 use Rattle.wrt_values.specs.Inverses.{inverses}
-use Rattle.wrt_values.specs.Values.{value_of}
 use Rattle.wrt_values.specs.declared.value.Value.{Value}
 use Rattle.wrt_values.specs.Coloured.{coloured_value}
 use Rattle.wrt_values.proofs.OneResidue.{coloured_residue_law}
@@ -41,7 +40,7 @@ use Rattle.script_values.specs.declared.drawing.Drawing.TheVariants.{Coloured}
 use Rattle.script_values.specs.declared.fault.ScriptRefusal.{ScriptRefusal}
 use Rattle.script_values.specs.declared.fault.ScriptRefusal.TheVariants.{Step as StepRefused}
 use Rattle.script_values.specs.declared.step_refusal.StepRefusal.TheVariants as refusals
-use Rattle.script_values.specs.Colours.{ColouredDiagram, HasFit, colours_after, moved_coloured, with_colours}
+use Rattle.script_values.specs.Colours.{ColouredDiagram, HasFit, colours_after, with_colours}
 use Rattle.script_values.specs.Drawings.{coloured_of, made}
 use Rattle.script_values.specs.Refusals.{fault_of_move}
 use Rattle.script_values.specs.Scripts.{stepped, values}

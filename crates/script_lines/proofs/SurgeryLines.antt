@@ -1,5 +1,5 @@
 -- The lines of a script with framings.
-use Rattle.std.proofs.Common.{◌≡◌, ◌⊎◌, inl, inr, ◌∙◌, ℕ, suc, ◌+◌, ℤ, List, [], ◌∷◌, ◌++◌, length, map, slice_index_or, Result, Ok, Err, refl, sym, ap, ap₂, subst, arith, add-one}
+use Rattle.std.proofs.Common.{◌≡◌, ◌⊎◌, inl, inr, ◌∙◌, ℕ, ◌+◌, ℤ, List, [], ◌∷◌, length, map, slice_index_or, Result, Ok, Err, refl, sym, ap, ap₂, subst, arith, add-one}
 use Rattle.std.specs.List.{AllByRecursion}
 use Rattle.root_quantum.specs.Parameters.{Parameters}
 use Rattle.pd_reader.specs.declared.item.Item.{Item}
@@ -32,9 +32,9 @@ use Rattle.script_values.specs.declared.fault.ScriptRefusal.{ScriptRefusal}
 use Rattle.script_values.specs.Drawings.{framed_of, made, slid_of}
 use Rattle.script_values.specs.Refusals.{fault_of_move, fault_of_slide}
 use Rattle.script_values.proofs.Moves.{framed_move}
-use Rattle.script_values.specs.Scripts.{behind, stepped, drawings, values}
+use Rattle.script_values.specs.Scripts.{stepped, values}
 use Rattle.script_lines.specs.Laws.{IsFramedStart, SurgeryLinesLaw}
-use Rattle.script_lines.proofs.Accepted.{after_Ok, behind_Ok, judged_is, slide_or_move, told_stops, script_of, first_line, no_lines}
+use Rattle.script_lines.proofs.Accepted.{judged_is, slide_or_move, told_stops, script_of, first_line, no_lines}
 use Rattle.script_lines.proofs.ToldRefusals.{Tells, TellsSlide, refusals_are_told, slides_are_told}
 use Rattle.script_lines.proofs.Following.{Follow, are_following, at_step}
 use Rattle.script_lines.proofs.ValuesExist.{value_exists}
