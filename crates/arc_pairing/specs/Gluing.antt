@@ -4,12 +4,14 @@
 --     Seam                        the names of the points before, the names of the node's ends, and the names that are left
 --     glued_edges seam old term   the pairs of the old pairing and of the term, as edges between names
 --     IsGluing seam old term found loops    the partners found and the number of loops are those of the joined pairs
+--     ChangesNothing seam term    glued to any pairing the term leaves it as it is, and closes no loop
 --     open_name_count names       how many names are open, since they stand once: 1 of 5, 5, 7
-use Rattle.std.specs.Prelude.{◌≡◌, ℕ, ◌==◌, List, ◌++◌}
+use Rattle.std.specs.Prelude.{◌≡◌, ℕ, ◌==◌, List, ◌++◌, length}
 use Rattle.std.specs.List.{count_by}
 use Rattle.list_lemmas.specs.Times.{times_in}
 use Rattle.graph_parts.specs.Patterns.{closed_parts}
 use Rattle.arc_gluing.specs.Pairings.{pair_edges, IsPairedBy, partners_of}
+use Rattle.arc_pairing.specs.Pairings.{IsShortPairing}
 
 -- The names of the points before, the names of the node's ends, and the names that are left.
 pub record Seam : Type 0 where
@@ -26,6 +28,10 @@ pub record IsGluing (seam : Seam) (old term found : List ℕ) (loops : ℕ) : Ty
   pub paired : IsPairedBy (glued_edges seam old term) seam.outer found
   pub partners : found ≡ partners_of (seam.inner ++ seam.ends) (glued_edges seam old term) seam.outer
   pub closed : loops ≡ closed_parts (seam.inner ++ seam.ends) (glued_edges seam old term) seam.outer
+
+-- Glued to any pairing the term leaves it as it is, and closes no loop.
+abbrev pub ChangesNothing : Seam → List ℕ → Type 0
+ChangesNothing seam term = (old : List ℕ) → IsShortPairing old → length old ≡ length seam.inner → IsGluing seam old term old 0
 
 -- How many names are open.
 abbrev pub open_name_count : List ℕ → ℕ

@@ -197,6 +197,7 @@ fn glue_kept(old: &Pairing, term: &Pairing, kept: Kept) -> Glued
 ///
 /// The old pairing has a point for each name before, and the term for each end of the node; the
 /// count is below 2^125, and grows by one. It takes no memory.
+#[inline]
 pub fn glue(old: &Pairing, term: &Pairing, seam: &Seam, turns: &mut Turns) -> Glued
     requires old_fits { length old.now ≡ length seam.now.inner }
     requires term_fits { length term.now ≡ length seam.now.ends }

@@ -125,6 +125,7 @@ impl Pairing {
     }
 
     /// An equal pairing. It takes no memory.
+    #[inline]
     pub fn copy(&self) -> Pairing
         ensures value { result ≡ self.now }
         ensures pairing { IsShortPairing self.now }

@@ -1,15 +1,16 @@
 //! Seams: where the points of a pairing and the ends of a node glued to it go.
 
-ghost use Rattle.std.specs.Prelude.{◌≡◌, ◌≢◌, ◌<◌, ◌≤◌, ◌==◌, ◌++◌, ◌↔◌, ℕ, length, map, slice_index, IfOk};
+ghost use Rattle.std.specs.Prelude.{◌≡◌, ◌≢◌, ◌<◌, ◌≤◌, ◌==◌, ◌++◌, ◌↔◌, ℕ, length, map, slice_index, IfOk, IsTrue};
 ghost use Rattle.std.specs.List.{filter};
 ghost use Rattle.std.specs.List.Sorted.{IsStrictlyIncreasing};
 ghost use Rattle.list_lemmas.specs.Times.{times_in};
 ghost use Rattle.arc_gluing.specs.Pairings.{AreOpen};
 ghost use Rattle.arc_gluing.specs.Seams.{place_in};
-ghost use Rattle.arc_pairing.specs.Gluing.{open_name_count};
+ghost use Rattle.arc_pairing.specs.Gluing.{open_name_count, ChangesNothing};
 
 use crate::kept::Kept;
 use crate::limits::{MOST_POINTS, MOST_SLOTS};
+use crate::pairing::Pairing;
 use arrayvec::ArrayVec;
 use list_lemmas::count_of;
 use std::marker::Model;
@@ -214,5 +215,19 @@ impl Seam {
         ensures few { length self.now.outer ≤ MOST_POINTS }
     {
         self.outer.as_slice()
+    }
+
+    /// Whether gluing the term, which has a point for each end of the node, is seen to change nothing: the seam keeps
+    /// places, and the term joins each end that is glued with the one that takes its place. It takes no memory.
+    #[inline]
+    pub fn keeps(&self, term: &Pairing) -> bool
+        requires { length term.now ≡ length self.now.ends }
+        ensures { IsTrue result → ChangesNothing self.now term.now }
+    {
+        let _ends = term.len();
+        match self.kept {
+            Some(kept) => term.partner(kept.a) == kept.c,
+            None => false,
+        }
     }
 }
