@@ -5,6 +5,7 @@ pub mod ListTests
 pub mod TableSums
 pub mod NextPairings
 pub mod TableSteps
+pub mod TableLengths
 pub mod TableCounts
 pub mod TableLoops
 pub mod TableEnds

@@ -15,7 +15,7 @@ use Rattle.arc_pairing.specs.Gluing.{Seam, glued_edges}
 use Rattle.frontier_laws.specs.Tables.{decoded, add_in, add_all, table_sum, contribution, contributions}
 
 -- A residue counts as the number itself.
-reduced : (m a w s : ℕ) → ((a % m) * w + s) % m ≡ (a * w + s) % m
+pub reduced : (m a w s : ℕ) → ((a % m) * w + s) % m ≡ (a * w + s) % m
 reduced m a w s =
     let c : (w * (a % m)) % m ≡ (w * a) % m = mul_same_mod m w (a % m) a (mod-mod a m) in
     let e1 : (a % m) * w ≡ w * (a % m) = omega arith in

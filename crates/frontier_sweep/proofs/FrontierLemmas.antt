@@ -124,6 +124,7 @@ module _ (m delta : ℕ) (network : Network) (order : List ℕ) (frontier : Fron
     few_names = narrow_places;
     single = λ x. let o = h.places_open.once x in grind (arith, nat_tests, o);
     few = few_more (taken network.nodes order) node few frontier.places h.places_open;
+    distinct = h.table_by.distinct;
     codes = spelled m delta (taken network.nodes order) frontier.places frontier.table ok few_before h.places_open narrow_places h.table_by;
     coefficients = λ i small. All-get_or (λ (entry : ℕ × ℕ). entry.1 < m) frontier.table i (0, 0) small h.below;
     weights = subst (λ (node : Node). All (λ term. term.weight < m) node.terms) (sym t.node_is) (All-get_or (λ (node : Node). All (λ term. term.weight < m) node.terms) network.nodes place record { group = 0; ends = []; terms = [] } place_below t.weights);

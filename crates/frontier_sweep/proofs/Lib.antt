@@ -4,6 +4,7 @@ pub mod Remainders
 pub mod KeptPlaces
 pub mod CodedLemmas
 pub mod StepLemmas
+pub mod InPlaceLemmas
 pub mod RiseLemmas
 pub mod GroupLemmas
 pub mod TablesBy

@@ -1,17 +1,19 @@
--- What holds in the loops of a step, pass by pass: the table is that of the terms glued so far, and has at most 262,144 entries.
-use Rattle.std.proofs.Common.{◌≡◌, ℕ, ◌+◌, ◌*◌, ◌<◌, ◌≤◌, ◌%◌, ◌==◌, false, List, [], ◌∷◌, ◌++◌, map, take, length, get_or, Some, sym, ap, subst, ◌∙◌, arith}
+-- What holds in the loops of a step that makes a table anew, pass by pass: the table is that of the terms glued so far, and has at most 262,144 entries.
+use Rattle.std.proofs.Common.{◌≡◌, ℕ, suc, ◌+◌, ◌*◌, ◌<◌, ◌≤◌, ◌%◌, ◌==◌, false, List, [], ◌∷◌, ◌++◌, map, take, drop, length, get_or, Some, sym, ap, subst, ◌∙◌, arith}
 use Rattle.std.specs.List.{All}
 use Rattle.std.specs.Map.{keys_of}
 use Rattle.std.specs.Option.{unwrap_or}
 use Rattle.std.specs.Set.{is_member}
-use Rattle.std.proofs.lemmas.List.{get_or-map, take-map, length-map, map-append, take_more}
+use Rattle.std.proofs.Math.Seq.{split_at}
+use Rattle.std.proofs.lemmas.List.{map-append, take_more, take-append-drop}
+use Rattle.std.proofs.lemmas.List.Concat.{flat_map-append}
 use Rattle.state_sums.specs.Networks.{Term}
 use Rattle.arc_pairing.specs.Gluing.{Seam}
 use Rattle.frontier_laws.specs.Tables.{add_in, add_all, glued_item, contribution, contributions}
 use Rattle.frontier_laws.proofs.Tables.{add_in-residue, add_in-below, add_all-push, add_all-append, add_all-below}
+use Rattle.frontier_laws.proofs.TableLengths.{longer_behind, longer_by_one}
 use Rattle.frontier_laws.proofs.TableLimits.{added_all_at}
 use Rattle.frontier_sweep.specs.LoopPowers.{LoopPowers}
-use Rattle.frontier_sweep.specs.Steps.{Overflows, OverflowsIn}
 
 -- The first so many terms are glued to the pairing.
 pub record IsGluedTo (powers : LoopPowers) (seam : Seam) (partner : List ℕ) (coefficient : ℕ) (terms : List Term) (old : List (ℕ × ℕ)) (count done : ℕ) (next : List (ℕ × ℕ)) (turns : ℕ) : Type 0 where
@@ -48,19 +50,17 @@ module _ (powers : LoopPowers) (seam : Seam) (partner : List ℕ) (coefficient :
   }
 
   -- A code that is new where there are 262,144.
-  pub glued_over : (code : ℕ) → code ≡ (item term).0 → is_member ◌==◌ (keys_of next) code ≡ false → 262144 ≤ length next → Overflows powers.modulus old (map item terms)
+  pub glued_over : (code : ℕ) → code ≡ (item term).0 → is_member ◌==◌ (keys_of next) code ≡ false → 262144 ≤ length next → 262144 < length (add_all powers.modulus old (map item terms))
   glued_over code code_is new full =
-      let front = ap (add_all powers.modulus old) (sym (take-map item j terms)) in
-      record {
-        at = j;
-        within = (let e = length-map terms item in omega (arith, within, e));
-        new =
-            ap (λ table. is_member ◌==◌ (keys_of table) (get_or (map item terms) j (0, 0)).0) (sym front ∙ sym h.table)
-            ∙ ap (λ (entry : ℕ × ℕ). is_member ◌==◌ (keys_of next) entry.0) (get_or-map item terms j term (0, 0) within ∙ ap item (sym read))
-            ∙ ap (is_member ◌==◌ (keys_of next)) (sym code_is)
-            ∙ new;
-        full = subst (λ (table : List (ℕ × ℕ)). 262144 ≤ length table) (h.table ∙ front) full;
-      }
+      let front = map item (take j terms) in
+      let back = map item (drop (suc j) terms) in
+      let split = ap (map item) (split_at terms j term within) ∙ map-append item (take j terms) (get_or terms j term ∷ drop (suc j) terms)
+      ∙ ap (λ last. front ++ item last ∷ back) (sym read) in
+      let fresh = ap (λ (so_far : List (ℕ × ℕ)). is_member ◌==◌ (keys_of so_far) (item term).0) (sym h.table) ∙ ap (is_member ◌==◌ (keys_of next)) (sym code_is) ∙ new in
+      let more = longer_by_one powers.modulus old front back (item term) fresh in
+      let long = ap length h.table in
+      let all = ap (λ items. length (add_all powers.modulus old items)) split in
+      omega (arith, full, more, long, all)
 
 -- The terms are glued to the first so many entries.
 pub record IsGluedToAll (powers : LoopPowers) (seam : Seam) (terms : List Term) (table : List (ℕ × ℕ)) (count done : ℕ) (next : List (ℕ × ℕ)) (turns : ℕ) : Type 0 where
@@ -87,13 +87,17 @@ module _ (powers : LoopPowers) (seam : Seam) (terms : List Term) (table next : L
   }
 
   -- An overflow at that entry.
-  pub entry_over : Overflows powers.modulus next (map (contribution powers.delta seam entry) terms) → OverflowsIn powers.modulus powers.delta seam terms table
-  entry_over over = record {
-    entry = i;
-    within = within;
-    over = subst (λ so_far. Overflows powers.modulus so_far (map (contribution powers.delta seam (get_or table i (0, 0))) terms)) h.table_is
-        (subst (λ last. Overflows powers.modulus next (map (contribution powers.delta seam last) terms)) read over);
-  }
+  pub entry_over : 262144 < length (add_all powers.modulus next (map (contribution powers.delta seam entry) terms)) → 262144 < length (add_all powers.modulus [] (contributions powers.delta seam terms table))
+  entry_over over =
+      let one : ℕ × ℕ → List (ℕ × ℕ) = λ entry. map (contribution powers.delta seam entry) terms in
+      let so_far = contributions powers.delta seam terms (take i table) in
+      let here = ap length (ap (λ before. add_all powers.modulus before (one entry)) h.table_is ∙ sym (add_all-append powers.modulus [] so_far (one entry))
+      ∙ ap (λ last. add_all powers.modulus [] (so_far ++ one last)) read ∙ added_all_at powers.modulus powers.delta seam terms table i (0, 0) within) in
+      let split = ap (λ entries. add_all powers.modulus [] (contributions powers.delta seam terms entries)) (sym (take-append-drop (i + 1) table))
+      ∙ ap (add_all powers.modulus []) (flat_map-append one (take (i + 1) table) (drop (i + 1) table)) in
+      let more = longer_behind powers.modulus [] (contributions powers.delta seam terms (take (i + 1) table)) (contributions powers.delta seam terms (drop (i + 1) table)) in
+      let all = ap length split in
+      omega (arith, over, here, more, all)
 
 pub some_same : {X : Type 0} (x y : X) → Some x ≡ Some y → x ≡ y
 some_same x y same = ap (λ found. unwrap_or found x) same

@@ -1,12 +1,10 @@
 -- A table of pairings of open names in their places: what its codes spell, and the table of one node more, which has as many entries
--- as there are pairings, so that a new code where there are 262,144 is one too many.
-use Rattle.std.proofs.Common.{◌≡◌, ℕ, suc, ◌<◌, ◌≤◌, ◌==◌, true, false, List, [], ◌∷◌, ◌++◌, map, take, drop, length, get_or, sym, ap, subst, ◌∙◌, arith}
+-- as there are pairings, so that an overfull one tells that these are too many.
+use Rattle.std.proofs.Common.{◌≡◌, ℕ, ◌<◌, ◌≤◌, ◌==◌, true, List, [], ◌∷◌, ◌++◌, length, get_or, sym, ap, subst, ◌∙◌, arith}
 use Rattle.std.specs.List.{All}
 use Rattle.std.specs.Map.{keys_of}
 use Rattle.std.specs.Set.{is_member}
-use Rattle.std.proofs.Math.Seq.{split_at}
 use Rattle.std.proofs.lemmas.Bool.Decides.{nat_tests}
-use Rattle.std.proofs.lemmas.List.{get_or-map, take-map, length-map}
 use Rattle.std.proofs.lemmas.List.Elements.{All-append, All-cons, All-nil, All-map, All-weaker}
 use Rattle.std.proofs.lemmas.Map.Entries.{length-keys_of}
 use Rattle.graph_parts.proofs.Ends.{is_member-get_or}
@@ -18,19 +16,15 @@ use Rattle.arc_gluing.proofs.GluingLaws.{paired_states}
 use Rattle.arc_pairing.specs.Codes.{code_of}
 use Rattle.arc_pairing.specs.Gluing.{Seam}
 use Rattle.arc_pairing.specs.Pairings.{IsShortPairing}
-use Rattle.frontier_laws.specs.Tables.{decoded, add_all, contribution, contributions}
+use Rattle.frontier_laws.specs.Tables.{decoded, contributions}
 use Rattle.frontier_laws.specs.Turns.{pairing_count}
 use Rattle.frontier_laws.proofs.Decoded.{decoded-code_of}
-use Rattle.frontier_laws.proofs.TableCounts.{front_small_new}
 use Rattle.frontier_laws.proofs.TableEnds.{found, keys-at}
-use Rattle.frontier_laws.proofs.TableLoops.{items_split}
-use Rattle.frontier_laws.proofs.Tables.{add_all-append}
 use Rattle.kept_seams.specs.AnyOrder.{pairings_by}
 use Rattle.kept_tables.specs.KeptTables.{IsTableBy, IsGathered, seam_by}
 use Rattle.kept_tables.proofs.Ends.{count}
-use Rattle.kept_tables.proofs.Gathered.{anew}
 use Rattle.kept_tables.proofs.Steps.{step}
-use Rattle.frontier_sweep.specs.Steps.{Spells, IsSeamOf, OverflowsIn}
+use Rattle.frontier_sweep.specs.Steps.{Spells, IsSeamOf, IsOverfull}
 
 -- A pairing of so many points.
 record IsOfPoints (points : ℕ) (partner : List ℕ) : Type 0 where
@@ -81,26 +75,6 @@ module _ (m delta : ℕ) (nodes : List Node) (node : Node) (names : List ℕ) (t
   gathered_count next gathered =
       count m delta (nodes ++ node ∷ []) seam.outer next (All-append IsNode nodes (node ∷ []) ok (All-cons IsNode node [] node_ok (All-nil IsNode))) few open_out is.narrow (gathered_by next gathered)
 
-  -- A NEW CODE WHERE THERE ARE 262,144 IS ONE TOO MANY
-  pub overflowing : OverflowsIn m delta seam node.terms table → 262144 < pairing_count (nodes ++ node ∷ [])
-  overflowing over =
-      let none : Term = record { weight = 0; partner = [] } in
-      let entry = get_or table over.entry (0, 0) in
-      let one : Term → ℕ × ℕ = contribution delta seam entry in
-      let at = over.over.at in
-      let term_in : at < length node.terms = (let w = over.over.within in let l = length-map node.terms one in omega (arith, w, l)) in
-      let done = contributions delta seam node.terms (take over.entry table) in
-      let front = done ++ map one (take at node.terms) in
-      let so_far : add_all m (add_all m [] done) (take at (map one node.terms)) ≡ add_all m [] front =
-      ap (add_all m (add_all m [] done)) (take-map one at node.terms) ∙ sym (add_all-append m [] done (map one (take at node.terms))) in
-      let new : is_member ◌==◌ (keys_of (add_all m [] front)) (one (get_or node.terms at none)).0 ≡ false =
-      ap (λ (table : List (ℕ × ℕ)). is_member ◌==◌ (keys_of table) (one (get_or node.terms at none)).0) (sym so_far)
-      ∙ ap (λ (item : ℕ × ℕ). is_member ◌==◌ (keys_of (add_all m (add_all m [] done) (take at (map one node.terms)))) item.0) (sym (get_or-map one node.terms at none (0, 0) term_in))
-      ∙ over.over.new in
-      let many = subst (λ (table : List (ℕ × ℕ)). 262144 ≤ length table) so_far over.over.full in
-      let items = contributions delta seam node.terms table in
-      let split = items_split delta seam node.terms (take over.entry table) entry table (drop (suc over.entry) table) (take at node.terms) (drop (suc at) node.terms) (get_or node.terms at none)
-      (split_at table over.entry (0, 0) over.within) (split_at node.terms at none term_in) in
-      let more = front_small_new m items front (map one (drop (suc at) node.terms) ++ contributions delta seam node.terms (drop (suc over.entry) table)) (one (get_or node.terms at none)) split new in
-      let long = gathered_count (add_all m [] items) (anew m items) in
-      omega (arith, many, more, long)
+  -- WHERE IT IS OVERFULL THERE ARE TOO MANY PAIRINGS
+  pub overflowing : IsOverfull m (contributions delta seam node.terms table) → 262144 < pairing_count (nodes ++ node ∷ [])
+  overflowing over = let c = gathered_count over.table over.gathered in let o = over.many in omega (arith, c, o)

@@ -1,22 +1,21 @@
 -- What a step asks of the terms that it glues, and where its table overflows. (This project's own.)
 --
 --     FitsSeam m seam term        the term pairs the ends of the node, and its weight is below m
---     Overflows m table items     one of the items, added behind those before it, has a new code where there are 262,144
---     OverflowsIn m delta seam terms table   the terms glued to one of the entries of the table overflow the next one
+--     IsOverfull m items          gathered from the items, a table has more than 262,144 entries
 --     Spells points code          the code spells a pairing of that many points
 --     IsSeamOf names ends seam    a seam of open names, in any order, and the ends of a node
---     OverflowsAt m delta names node table   one of the entries does so, with such a seam
+--     OverflowsAt m delta names node table   with such a seam the next table is overfull
 --     IsReady m names node table count       the node can be glued to the table
-use Rattle.std.specs.Prelude.{◌≡◌, ℕ, ◌<◌, ◌≤◌, ◌==◌, false, List, [], ◌++◌, ◌^◌, length, map, take, get_or}
-use Rattle.std.specs.List.{All}
+use Rattle.std.specs.Prelude.{◌≡◌, ℕ, ◌<◌, ◌≤◌, ◌==◌, List, ◌++◌, ◌^◌, length, get_or}
+use Rattle.std.specs.List.{All, IsDistinct}
 use Rattle.std.specs.Map.{keys_of}
-use Rattle.std.specs.Set.{is_member}
 use Rattle.state_sums.specs.Networks.{Node, Term}
 use Rattle.arc_gluing.specs.Pairings.{AreOpen}
 use Rattle.arc_pairing.specs.Codes.{code_of}
 use Rattle.arc_pairing.specs.Gluing.{Seam}
 use Rattle.arc_pairing.specs.Pairings.{IsShortPairing}
-use Rattle.frontier_laws.specs.Tables.{decoded, add_all, contribution, contributions}
+use Rattle.frontier_laws.specs.Tables.{decoded, contributions}
+use Rattle.kept_tables.specs.KeptTables.{IsGathered}
 use Rattle.list_lemmas.specs.Times.{times_in}
 use Rattle.arc_pairing.specs.declared.limits.TheConstants.{MOST_POINTS}
 use Rattle.frontier_laws.specs.declared.limits.TheConstants.{MOST_PAIRINGS}
@@ -26,18 +25,11 @@ pub record FitsSeam (m : ℕ) (seam : Seam) (term : Term) : Type 0 where
   pub whole : length term.partner ≡ length seam.ends
   pub below : term.weight < m
 
--- The item at that place, added behind those before it, has a new code, and the table has 262,144 codes.
-pub record Overflows (m : ℕ) (table items : List (ℕ × ℕ)) : Type 0 where
-  pub at : ℕ
-  pub within : at < length items
-  pub new : is_member ◌==◌ (keys_of (add_all m table (take at items))) (get_or items at (0, 0)).0 ≡ false
-  pub full : MOST_PAIRINGS ≤ length (add_all m table (take at items))
-
--- One of the entries of a table overflows the next one, when the terms are glued to it.
-pub record OverflowsIn (m delta : ℕ) (seam : Seam) (terms : List Term) (table : List (ℕ × ℕ)) : Type 0 where
-  pub entry : ℕ
-  pub within : entry < length table
-  pub over : Overflows m (add_all m [] (contributions delta seam terms (take entry table))) (map (contribution delta seam (get_or table entry (0, 0))) terms)
+-- Gathered from the items, a table has more than 262,144 entries.
+pub record IsOverfull (m : ℕ) (items : List (ℕ × ℕ)) : Type 0 where
+  pub table : List (ℕ × ℕ)
+  pub gathered : IsGathered m items table
+  pub many : MOST_PAIRINGS < length table
 
 -- The code spells a pairing of that many points.
 pub record Spells (points code : ℕ) : Type 0 where
@@ -52,18 +44,19 @@ pub record IsSeamOf (names ends : List ℕ) (seam : Seam) : Type 0 where
   pub outer : AreOpen (names ++ ends) seam.outer
   pub narrow : length seam.outer ≤ MOST_POINTS
 
--- With some seam of the open names and the node, an entry overflows the next table.
+-- With some seam of the open names and the node, the next table has more than 262,144 entries.
 pub record OverflowsAt (m delta : ℕ) (names : List ℕ) (node : Node) (table : List (ℕ × ℕ)) : Type 0 where
   pub seam : Seam
   pub is : IsSeamOf names node.ends seam
-  pub over : OverflowsIn m delta seam node.terms table
+  pub over : IsOverfull m (contributions delta seam node.terms table)
 
--- The node can be glued: no open name stands twice, of the ends and the open names none stands thrice, the codes spell pairings of the open names, all
--- weights and coefficients are below m, and there is room for the table and the turns.
+-- The node can be glued: no open name stands twice, of the ends and the open names none stands thrice, the codes are distinct and spell pairings of the
+-- open names, all weights and coefficients are below m, and there is room for the table and the turns.
 pub record IsReady (m : ℕ) (names : List ℕ) (node : Node) (table : List (ℕ × ℕ)) (count : ℕ) : Type 0 where
   pub few_names : length names ≤ MOST_POINTS
   pub single : (x : ℕ) → times_in names x ≤ 1
   pub few : (x : ℕ) → times_in (names ++ node.ends) x ≤ 2
+  pub distinct : IsDistinct ◌==◌ (keys_of table)
   pub codes : (i : ℕ) → i < length table → Spells (length names) (get_or table i (0, 0)).0
   pub coefficients : (i : ℕ) → i < length table → (get_or table i (0, 0)).1 < m
   pub weights : All (λ term. term.weight < m) node.terms

@@ -17,24 +17,22 @@ use crate::places::increasing;
 use crate::powers::LoopPowers;
 use crate::rises::Rises;
 use crate::step::glue_node;
-use crate::table::Table;
+use crate::tables::Tables;
 use crate::view::View;
 use arc_pairing::{MOST_NODES, MOST_POINTS, Network, Turns};
 use arrayvec::ArrayVec;
 use std::alloc::{AllocError, Global};
 use std::marker::Model;
-use std::mem;
 
 /// The places of the nodes that are left, increasing, the open names, increasing, the same in the places that they
 /// keep, the table of the pairings of these, by how much their number rises at each node, and where each group
-/// stands; beside it the table of the next step, so that none is made anew, and which no contract sees.
+/// stands.
 #[derive(Drop)]
 pub(crate) struct Frontier {
     left: Vec<u32>,
     names: ArrayVec<u32, MOST_POINTS>,
     places: ArrayVec<u32, MOST_POINTS>,
-    table: Table,
-    next: Table,
+    tables: Tables,
     rises: Rises,
     groups: Vec<u64>,
 }
@@ -44,7 +42,7 @@ impl Model for Frontier {
 
     ghost Value = { Frontiers.Frontier };
 
-    ghost view = { λ frontier. record { left = frontier.left.items; names = frontier.names.items; places = frontier.places.items; table = frontier.table; rises = frontier.rises; groups = frontier.groups.items } };
+    ghost view = { λ frontier. record { left = frontier.left.items; names = frontier.names.items; places = frontier.places.items; table = frontier.tables; rises = frontier.rises; groups = frontier.groups.items } };
 }
 
 /// The places from 0 on, so many.
@@ -79,15 +77,14 @@ impl Frontier {
         ensures { IfOk result (IsFirst network.now) }
     {
         let left = places(alloc, network.nodes().len())?;
-        let table = Table::of_none(alloc)?;
+        let tables = Tables::of_none(alloc)?;
         let rises = Rises::start(alloc, network)?;
         let groups = group_index(alloc, network)?;
         Ok(Frontier {
             left,
             names: ArrayVec::new(),
             places: ArrayVec::new(),
-            table,
-            next: Table::new(alloc),
+            tables,
             rises,
             groups,
         })
@@ -128,8 +125,7 @@ impl Frontier {
     {
         let node = &network.nodes()[place as usize];
         let names = self.places.as_slice();
-        let seam = glue_node(powers, names, node, &self.table, &mut self.next, turns)?;
-        mem::swap(&mut self.table, &mut self.next);
+        let seam = glue_node(powers, names, node, &mut self.tables, turns)?;
         self.places = seam.into_names();
         self.names = increasing(self.places.as_slice());
         self.rises
@@ -145,6 +141,6 @@ impl Frontier {
         requires below { All (λ entry. entry.1 < powers.now.modulus) self.now.table }
         ensures { result ≡ unwrap_or (lookup (◌==◌ 0) self.now.table) 0 * powers.now.delta ^ free % powers.now.modulus }
     {
-        powers.with_free_loops(self.table.coefficient(0), free)
+        powers.with_free_loops(self.tables.coefficient(0), free)
     }
 }

@@ -7,6 +7,7 @@ mod ends_index;
 mod fault;
 mod frontier;
 mod groups;
+mod in_place;
 mod laws;
 mod order;
 mod place_key;
@@ -15,6 +16,7 @@ mod powers;
 mod rises;
 mod step;
 mod table;
+mod tables;
 mod view;
 
 pub use chooser::{Choose, Chooser, Kept};

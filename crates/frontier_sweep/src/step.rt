@@ -1,19 +1,20 @@
 //! One step of the sweep: a node is glued to each pairing of a table.
 
-ghost use Rattle.std.specs.Prelude.{◌≡◌, ◌≢◌, ◌<◌, ◌≤◌, ◌+◌, ◌*◌, ◌^◌, ◌==◌, ℕ, [], length, map, take, get_or, false, ◌++◌, OnOk, IfOk, IfErr};
+ghost use Rattle.std.specs.Prelude.{◌≡◌, ◌≢◌, ◌<◌, ◌≤◌, ◌+◌, ◌*◌, ◌^◌, ◌%◌, ◌==◌, ℕ, [], length, map, get_or, ◌++◌, OnOk, IfOk, IfErr};
 ghost use Rattle.list_lemmas.specs.Times.{times_in};
+ghost use Rattle.arc_pairing.specs.Codes.{code_of};
 ghost use Rattle.arc_pairing.specs.Nodes.{IsShortNode};
 ghost use Rattle.frontier_sweep.specs.NotGluedNodes.{Explains};
 ghost use Rattle.std.specs.List.{All};
-ghost use Rattle.std.specs.Map.{keys_of};
-ghost use Rattle.std.specs.Set.{is_member};
+ghost use Rattle.kept_tables.specs.KeptTables.{IsGathered};
 ghost use Rattle.frontier_laws.specs.Tables.{add_all, glued_item, contributions};
-ghost use Rattle.frontier_sweep.specs.Steps.{FitsSeam, Overflows, OverflowsIn, IsSeamOf, IsReady, Spells};
+ghost use Rattle.frontier_sweep.specs.Steps.{FitsSeam, IsSeamOf, IsReady, Spells};
 
 use crate::fault::NotGlued;
 use crate::places::kept_seam;
 use crate::powers::LoopPowers;
 use crate::table::Table;
+use crate::tables::Tables;
 use arc_pairing::{Node, Pairing, Seam, Term, Turns, glue};
 use frontier_laws::MOST_PAIRINGS;
 
@@ -23,6 +24,32 @@ pub(crate) struct Step<'a> {
     pub(crate) powers: &'a LoopPowers,
     pub(crate) seam: &'a Seam,
     pub(crate) terms: &'a [Term],
+}
+
+impl<'a> Step<'a> {
+    /// Glues a term to the pairing, which has this coefficient. Answers the pairing that it gives, and what is to be
+    /// added there.
+    #[inline]
+    pub(crate) fn glue(
+        self,
+        term: &Term,
+        pairing: &Pairing,
+        coefficient: u64,
+        turns: &mut Turns,
+    ) -> (Pairing, u64)
+        requires fits { length pairing.now ≡ length self.seam.now.inner }
+        requires term { FitsSeam self.powers.now.modulus self.seam.now term.now }
+        requires coefficient { coefficient < self.powers.now.modulus }
+        requires room { turns.old < 2 ^ 125 }
+        ensures code { code_of result.0 ≡ (glued_item self.entry.powers.now.delta self.entry.seam.now pairing.now coefficient term.now).0 }
+        ensures more { result.1 ≡ (glued_item self.entry.powers.now.delta self.entry.seam.now pairing.now coefficient term.now).1 % self.entry.powers.now.modulus }
+        ensures below { result.1 < self.entry.powers.now.modulus }
+        ensures turns { turns.new ≡ turns.old + 1 }
+    {
+        let glued = glue(pairing, &term.pairing, self.seam, turns);
+        let more = self.powers.scaled(coefficient, term.weight, glued.loops);
+        (glued.pairing, more)
+    }
 }
 
 /// Glues each term to the pairing, which has this coefficient, and adds what they give to the next table.
@@ -46,12 +73,11 @@ fn glue_terms(
     ensures turns { OnOk result (turns.new ≡ turns.old + length step.entry.terms.now) }
     ensures narrow { (ends : ℕ) → result ≢ Err (NotGlued.Wide ends) }
     ensures full { result ≡ Err NotGlued.Full →
-        Overflows step.entry.powers.now.modulus next.old (map (glued_item step.entry.powers.now.delta step.entry.seam.now pairing.now coefficient) step.entry.terms.now) }
+        MOST_PAIRINGS < length (add_all step.entry.powers.now.modulus next.old (map (glued_item step.entry.powers.now.delta step.entry.seam.now pairing.now coefficient) step.entry.terms.now)) }
 {
     for term in step.terms {
-        let glued = glue(pairing, &term.pairing, step.seam, turns);
-        let more = step.powers.scaled(coefficient, term.weight, glued.loops);
-        next.add(step.powers.ring(), glued.pairing, more)?;
+        let (glued, more) = step.glue(term, pairing, coefficient, turns);
+        next.add(step.powers.ring(), glued, more)?;
     }
     Ok(())
 }
@@ -75,7 +101,8 @@ pub(crate) fn glue_table(
     ensures few { OnOk result (length next.new ≤ MOST_PAIRINGS) }
     ensures turns { OnOk result (turns.new ≡ turns.old + length table.now * length step.entry.terms.now) }
     ensures narrow { (ends : ℕ) → result ≢ Err (NotGlued.Wide ends) }
-    ensures full { result ≡ Err NotGlued.Full → OverflowsIn step.entry.powers.now.modulus step.entry.powers.now.delta step.entry.seam.now step.entry.terms.now table.now }
+    ensures full { result ≡ Err NotGlued.Full →
+        MOST_PAIRINGS < length (add_all step.entry.powers.now.modulus [] (contributions step.entry.powers.now.delta step.entry.seam.now step.entry.terms.now table.now)) }
 {
     for at in 0..table.len() {
         glue_terms(
@@ -95,17 +122,17 @@ pub(crate) fn glue_node(
     powers: &LoopPowers,
     names: &[u32],
     node: &Node,
-    table: &Table,
-    next: &mut Table,
+    tables: &mut Tables,
     turns: &mut Turns,
 ) -> Result<Seam, NotGlued>
-    requires { IsReady powers.now.modulus names.now node.now table.now turns.old }
+    requires { IsReady powers.now.modulus names.now node.now tables.old turns.old }
     ensures seam { IfOk result (IsSeamOf names.now node.now.ends) }
-    ensures added { IfOk result (λ seam. next.new ≡ add_all powers.now.modulus [] (contributions powers.now.delta seam node.now.terms table.now)) }
-    ensures few { OnOk result (length next.new ≤ MOST_PAIRINGS) }
-    ensures turns { OnOk result (turns.new ≡ turns.old + length table.now * length node.now.terms) }
+    ensures gathered { IfOk result (λ seam. IsGathered powers.now.modulus (contributions powers.now.delta seam node.now.terms tables.old) tables.new) }
+    ensures below { OnOk result (All (λ entry. entry.1 < powers.now.modulus) tables.new) }
+    ensures few { OnOk result (length tables.new ≤ MOST_PAIRINGS) }
+    ensures turns { OnOk result (turns.new ≡ turns.old + length tables.old * length node.now.terms) }
     ensures node { IsShortNode node.now }
-    ensures refused { IfErr result (Explains powers.now.modulus powers.now.delta names.now node.now table.now) }
+    ensures refused { IfErr result (Explains powers.now.modulus powers.now.delta names.now node.now tables.old) }
 {
     let terms = node.terms();
     let seam = kept_seam(names, node)?;
@@ -114,7 +141,6 @@ pub(crate) fn glue_node(
         seam: &seam,
         terms,
     };
-    next.prepare((table.len() * terms.len()).min(MOST_PAIRINGS))?;
-    glue_table(step, table, next, turns)?;
+    tables.glue(step, turns)?;
     Ok(seam)
 }

@@ -5,6 +5,7 @@ ghost use Rattle.std.specs.List.{All};
 ghost use Rattle.std.specs.Map.{keys_of, lookup};
 ghost use Rattle.std.specs.Option.{unwrap_or};
 ghost use Rattle.std.specs.Set.{is_member};
+ghost use Rattle.indexmap.specs.Layout.{set_value_at};
 ghost use Rattle.arc_pairing.specs.Codes.{code_of};
 ghost use Rattle.arc_pairing.specs.Pairings.{IsShortPairing};
 ghost use Rattle.frontier_laws.specs.Tables.{add_in};
@@ -92,6 +93,15 @@ impl Table {
         *coefficient
     }
 
+    /// Gives the entry at that place another coefficient.
+    #[inline]
+    pub(crate) fn set_coefficient(&mut self, at: usize, coefficient: u64)
+        requires { at < length self.old }
+        ensures { self.new ≡ set_value_at self.old at coefficient }
+    {
+        *self.entries.get_index_mut(at).unwrap() = coefficient;
+    }
+
     /// The coefficient at the code, and 0 where the code is not there.
     pub(crate) fn coefficient(&self, code: u128) -> u64
         ensures { result ≡ unwrap_or (lookup (◌==◌ code) self.now) 0 }
@@ -100,6 +110,14 @@ impl Table {
             Some(coefficient) => *coefficient,
             None => 0,
         }
+    }
+
+    /// Makes room for so many entries more.
+    pub(crate) fn reserve(&mut self, more: usize) -> Result<(), AllocError>
+        ensures { self.new ≡ self.old }
+    {
+        self.entries.reserve(more)?;
+        self.pairings.reserve(more)
     }
 
     /// Empties the table, and makes room for so many entries.

@@ -2,7 +2,6 @@ use Rattle.std.proofs.Common.{◌≡◌, ℕ, ◌+◌, ◌<◌, List, Err, map, 
 use Rattle.std.proofs.lemmas.Result.{err_from_is_err_and}
 use Rattle.frontier_laws.specs.Tables.{decoded, add_all, glued_item}
 use Rattle.frontier_laws.proofs.Decoded.{decoded-code_of}
-use Rattle.frontier_sweep.specs.Steps.{Overflows}
 use Rattle.frontier_sweep.proofs.StepLemmas.{IsGluedToAll, entry_more, entry_over}
 use Rattle.frontier_sweep.proofs.step.glue_table.Goals as goal
 
@@ -23,8 +22,8 @@ returns-in_err-glue_terms-clause-full c full =
     let p = err_from_is_err_and c.from_residual.result c.from_residual.ensures.1 in
     let is : c.pairing.result.now ≡ decoded entry.0 = sym (decoded-code_of c.pairing.result.now c.pairing.ensures.short) ∙ ap decoded c.pairing.ensures.code in
     entry_over powers step.seam.now step.terms.now table c.loop-at.next c.args.turns.now c.loop-at.at c.loop-at.turns c.loop-at.invariant within entry refl
-    (subst (λ coefficient. Overflows powers.modulus c.loop-at.next (map (glued_item powers.delta step.seam.now (decoded entry.0) coefficient) step.terms.now)) c.coefficient_at.ensures
-    (subst (λ (partner : List ℕ). Overflows powers.modulus c.loop-at.next (map (glued_item powers.delta step.seam.now partner c.coefficient_at.result) step.terms.now)) is
+    (subst (λ coefficient. 262144 < length (add_all powers.modulus c.loop-at.next (map (glued_item powers.delta step.seam.now (decoded entry.0) coefficient) step.terms.now))) c.coefficient_at.ensures
+    (subst (λ (partner : List ℕ). 262144 < length (add_all powers.modulus c.loop-at.next (map (glued_item powers.delta step.seam.now partner c.coefficient_at.result) step.terms.now))) is
     ((c.in_err-glue_terms.ensures {u = tt}).full (ap Err (sym p.2) ∙ sym p.1 ∙ full))))
 
 pub loop-at-preserved : goal.loop-at-preserved

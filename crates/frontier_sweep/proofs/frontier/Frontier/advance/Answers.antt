@@ -1,14 +1,10 @@
-use Rattle.std.proofs.Common.{◌≡◌, ℕ, ◌<◌, ◌≤◌, ◌+◌, ◌*◌, List, [], ◌∷◌, ◌++◌, length, slice_index, sym, ap, subst, ◌∙◌}
+use Rattle.std.proofs.Common.{◌≡◌, ℕ, ◌<◌, ◌+◌, ◌*◌, List, [], ◌∷◌, ◌++◌, length, slice_index, sym, ap, subst, ◌∙◌}
 use Rattle.std.specs.List.{remove}
 use Rattle.std.proofs.lemmas.Result.{err_from_is_err_and}
 use Rattle.state_sums.specs.Networks.{Node}
-use Rattle.frontier_laws.specs.Tables.{add_all, contributions}
-use Rattle.frontier_laws.proofs.Tables.{add_all-below}
+use Rattle.frontier_laws.specs.Tables.{contributions}
 use Rattle.kept_tables.specs.KeptTables.{IsGathered}
-use Rattle.kept_tables.proofs.Gathered.{anew}
 use Rattle.arc_gluing.specs.Pairings.{AreOpen}
-use Rattle.std.specs.List.{All}
-use Rattle.std.proofs.lemmas.List.Elements.{All-nil}
 use Rattle.std.specs.Result.{IfErr}
 use Rattle.frontier_sweep.specs.Frontiers.{Frontier, IsFrontier, IsLimitAfter}
 use Rattle.frontier_sweep.specs.NotGluedNodes.{Explains}
@@ -32,7 +28,7 @@ glue_node-requires c =
     let taken = taking m delta network f.0 c.args.self.now c.args.turns.now f.1 c.nodes.ensures.network c.requires.weights c.requires.some c.args.place c.requires.left c.nodes.result.now node c.nodes.ensures.value c.index-nodes-place.is in
     let names = c.as_slice-names.ensures.value ∙ ap (λ (frontier : Frontier). frontier.places) c.self.view_is in
     let table = ap (λ (frontier : Frontier). frontier.table) c.self.view_is in
-    subst (λ (names : List ℕ). IsReady m names node c.self.inside.table c.args.turns.now) (sym names)
+    subst (λ (names : List ℕ). IsReady m names node c.self.inside.tables c.args.turns.now) (sym names)
     (subst (λ (table : List (ℕ × ℕ)). IsReady m c.args.self.now.places node table c.args.turns.now) (sym table) (ready m delta network f.0 c.args.self.now c.args.turns.now f.1 c.args.place node taken))
 
 pub returns-in_err-seam-clause-refused : goal.returns-in_err-seam-clause-refused
@@ -67,12 +63,9 @@ returns-clause-after c order h =
     let inside_left = c.deref.ensures.value in
     let in_range = subst (λ (left : List ℕ). at < length left) (inside_left ∙ left) c.index_of-index.ensures.within in
     let here = ap (λ (left : List ℕ). slice_index left at) (sym (inside_left ∙ left)) ∙ c.index_of-index.ensures.place in
-    let next = c.swap.new.x in
-    let next_is = c.swap.ensures.x_after ∙ glued.added ∙ ap (λ (table : List (ℕ × ℕ)). add_all m [] (contributions delta c.in_ok-seam.seam node.terms table)) table in
-    let few = subst (λ (table : List (ℕ × ℕ)). length table ≤ 262144) (sym c.swap.ensures.x_after) glued.few in
+    let next = c.glue_node.new.tables in
     let turns = glued.turns ∙ ap (λ (table : List (ℕ × ℕ)). c.args.turns.now + length table * length node.terms) table in
-    let gathered = subst (IsGathered m (contributions delta c.in_ok-seam.seam node.terms c.args.self.now.table)) (sym next_is) (anew m (contributions delta c.in_ok-seam.seam node.terms c.args.self.now.table)) in
-    let below = subst (All (λ entry. entry.1 < m)) (sym next_is) (add_all-below m (contributions delta c.in_ok-seam.seam node.terms c.args.self.now.table) [] c.requires.some (All-nil (λ (entry : ℕ × ℕ). entry.1 < m))) in
+    let gathered = subst (λ (table : List (ℕ × ℕ)). IsGathered m (contributions delta c.in_ok-seam.seam node.terms table) next) table glued.gathered in
     let placed : c.as_slice.result.now ≡ c.in_ok-seam.seam.outer = c.as_slice.ensures.value ∙ c.into_names-self-inside.ensures in
     let was_open = subst (AreOpen (c.args.self.now.places ++ node.ends)) (sym placed) seam.outer in
     let names_open = c.increasing-self-inside.ensures.open (c.args.self.now.places ++ node.ends) was_open in
@@ -90,7 +83,7 @@ returns-clause-after c order h =
     let groups = sym (ap (λ (frontier : Frontier). frontier.groups) c.self.view_is) in
     let after =
     next_frontier m delta network order c.args.self.now c.args.turns.now h c.args.place node taken c.in_ok-seam.seam seam glued.node at in_range here
-    _ _ _ new_left names_open ascending c.into_names-self-inside.ensures _ (subst (λ (left : List ℕ). IsRises network left c.increasing-self-inside.result.items c.refresh.new.self) (sym new_left) rises_now) next gathered below few c.glue_node.new.turns turns in
+    _ _ _ new_left names_open ascending c.into_names-self-inside.ensures _ (subst (λ (left : List ℕ). IsRises network left c.increasing-self-inside.result.items c.refresh.new.self) (sym new_left) rises_now) next gathered glued.below glued.few c.glue_node.new.turns turns in
     subst (λ (groups : List ℕ). IsFrontier m delta network (order ++ c.args.place ∷ []) record { left = c.remove.new.self.items; names = c.increasing-self-inside.result.items; places = c.into_names-self-inside.result.items; table = next; rises = c.refresh.new.self; groups = groups } c.glue_node.new.turns) groups after
 
 kept_rises : (c : goal.After-ends) → IsRises c.args.network.now c.args.self.now.left c.args.self.now.names c.self.inside.rises
