@@ -4,12 +4,8 @@ pub mod Decoded
 pub mod ListTests
 pub mod TableSums
 pub mod NextPairings
-pub mod TableSteps
 pub mod TableLengths
 pub mod TableCounts
-pub mod TableLoops
-pub mod TableEnds
-pub mod TableLimits
 pub mod TurnSteps
 pub mod FirstLeast
 pub mod Ranks

@@ -1,5 +1,6 @@
 -- Tests over lists: of mapped and joined lists, and of lists with the same members.
-use Rattle.std.proofs.Common.{◌≡◌, ℕ, ◌==◌, Bool, true, List, [], ◌∷◌, ◌++◌, map, refl, sym, ap, ◌∙◌, arith}
+use Rattle.std.proofs.Common.{◌≡◌, ℕ, ◌==◌, Bool, true, List, [], ◌∷◌, ◌++◌, map, refl, sym, ap, ◌∙◌, ⊎_elim, arith}
+use Rattle.std.proofs.lemmas.Bool.{cases_Bool}
 use Rattle.std.specs.List.{All, flat_map, list_any}
 use Rattle.std.specs.Set.{is_member}
 use Rattle.std.proofs.lemmas.Bool.Decides.{nat_tests}
@@ -24,6 +25,15 @@ any-map f h (x ∷ xs) = let ih = any-map f h xs in grind (arith, ih)
 pub any-flat_map : {X Y : Type 0} (f : Y → Bool) (h : X → List Y) (xs : List X) → list_any f (flat_map h xs) ≡ list_any (λ x. list_any f (h x)) xs
 any-flat_map f h [] = refl
 any-flat_map f h (x ∷ xs) = let ih = any-flat_map f h xs in let a = list_any-append f (h x) (flat_map h xs) in grind (arith, ih, a)
+
+-- A test that passes is passed by some item.
+pub found : {X : Type 0} (P : X → Type 0) (f : X → Bool) (xs : List X) → All P xs → list_any f xs ≡ true → (x : X) × P x × (f x ≡ true)
+found P f [] all t = absurd (grind (arith, t))
+found P f (x ∷ xs) all t =
+    ⊎_elim
+    (λ yes. (x, All-head P x xs all, yes))
+    (λ no. found P f xs (All-tail P x xs all) (grind (arith, t, no)))
+    (cases_Bool (f x))
 
 -- A test that passes at a member is passed.
 passes : (g : ℕ → Bool) (p : ℕ) (xs : List ℕ) → is_member ◌==◌ xs p ≡ true → g p ≡ true → list_any g xs ≡ true

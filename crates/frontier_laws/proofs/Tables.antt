@@ -1,5 +1,5 @@
 -- What one more item, and all items, make of a table: its codes, its length, its entries and its residues.
-use Rattle.std.proofs.Common.{◌≡◌, ℕ, ◌+◌, ◌%◌, ◌<◌, ◌==◌, Bool, cond, ◌||◌, List, [], ◌∷◌, ◌++◌, length, refl, sym, ap, subst, ◌∙◌, arith, Some, ⊎_elim}
+use Rattle.std.proofs.Common.{◌≡◌, ℕ, zero, suc, ◌+◌, ◌%◌, ◌<◌, ◌==◌, Bool, cond, ◌||◌, List, [], ◌∷◌, ◌++◌, length, get_or, slice_index, refl, sym, ap, subst, ◌∙◌, arith, Some, ⊎_elim}
 use Rattle.std.specs.List.{IsDistinct, All}
 use Rattle.std.specs.Map.{keys_of, lookup, set_value}
 use Rattle.std.specs.Set.{is_member}
@@ -90,3 +90,9 @@ add_all-distinct m (item ∷ items) table h = add_all-distinct m items (add_in m
 pub add_all-below : (m : ℕ) (items table : List (ℕ × ℕ)) → 0 < m → All (λ entry. entry.1 < m) table → All (λ entry. entry.1 < m) (add_all m table items)
 add_all-below m [] table pos h = h
 add_all-below m (item ∷ items) table pos h = add_all-below m items (add_in m item.0 item.1 table) pos (add_in-below m item.0 item.1 table pos h)
+
+-- ---- the codes by places
+pub keys-at : (table : List (ℕ × ℕ)) (i : ℕ) (d : ℕ × ℕ) → i < length table → slice_index (keys_of table) i ≡ (get_or table i d).0
+keys-at [] i d l = absurd (omega (arith, l))
+keys-at (e ∷ table) zero d l = refl
+keys-at (e ∷ table) (suc i) d l = keys-at table i d (omega (arith, l))

@@ -8,18 +8,13 @@
 --     table_sum worth table                  over the entries, the coefficient times what the code is worth
 --     glued_item delta seam partner coefficient term    what a term gives when it is glued to a pairing
 --     contribution, contributions            what each entry and each term give when they are glued
---     IsTableOf m delta nodes table          the table of the states of these nodes
-use Rattle.std.specs.Prelude.{◌≡◌, ℕ, ◌+◌, ◌*◌, ◌^◌, ◌/◌, ◌%◌, ◌==◌, if◌then◌else◌, List, [], ◌∷◌, ◌++◌, map}
-use Rattle.std.specs.List.{sum_by, fold, flat_map, list_any, range_with_len, IsDistinct}
-use Rattle.std.specs.Set.{is_member}
+use Rattle.std.specs.Prelude.{ℕ, ◌+◌, ◌*◌, ◌^◌, ◌/◌, ◌%◌, ◌==◌, if◌then◌else◌, List, [], ◌∷◌, ◌++◌, map}
+use Rattle.std.specs.List.{sum_by, fold, flat_map, range_with_len}
 use Rattle.graph_parts.specs.Patterns.{closed_parts}
-use Rattle.state_sums.specs.Networks.{Node, Term}
+use Rattle.state_sums.specs.Networks.{Term}
 use Rattle.arc_gluing.specs.Pairings.{partners_of}
-use Rattle.arc_gluing.specs.Sums.{pairing_sum}
 use Rattle.arc_pairing.specs.Codes.{code_of}
 use Rattle.arc_pairing.specs.Gluing.{Seam, glued_edges}
-use Rattle.frontier_laws.specs.Orders.{open_names}
-use Rattle.frontier_laws.specs.Turns.{pairings}
 
 -- The digits of the code to base 32, as many as the number above 24 digits says.
 abbrev pub decoded : ℕ → List ℕ
@@ -51,10 +46,3 @@ contribution delta seam entry term = glued_item delta seam (decoded entry.0) ent
 
 abbrev pub contributions : ℕ → Seam → List Term → List (ℕ × ℕ) → List (ℕ × ℕ)
 contributions delta seam terms table = flat_map (λ entry. map (contribution delta seam entry) terms) table
-
--- The table of the states of these nodes: each pairing that arises has one entry, and whatever the pairings are worth, the
--- table comes to the same as the states.
-pub record IsTableOf (m delta : ℕ) (nodes : List Node) (table : List (ℕ × ℕ)) : Type 0 where
-  pub distinct : IsDistinct ◌==◌ (map (λ entry. entry.0) table)
-  pub codes : (code : ℕ) → is_member ◌==◌ (map (λ entry. entry.0) table) code ≡ list_any (λ partner. code == code_of partner) (pairings nodes)
-  pub sums : (worth : ℕ → ℕ) → table_sum worth table % m ≡ pairing_sum delta nodes (open_names nodes) (λ partner. worth (code_of partner)) % m

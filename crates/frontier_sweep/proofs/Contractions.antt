@@ -14,8 +14,7 @@ use Rattle.frontier_laws.proofs.ChosenOrders.{IsChosen-more, IsChosen-none}
 use Rattle.frontier_laws.proofs.OpenNames.{AreOpen-open_names}
 use Rattle.frontier_laws.proofs.OrdersPlaces.{IsPartOrder-none, IsPartOrder-more, left_none, order_length}
 use Rattle.frontier_laws.proofs.OrdersTaken.{AreNodes-taken, AreFew-order, whole_value, whole_closed, shown_in_view}
-use Rattle.kept_tables.proofs.Ends.{end}
-use Rattle.frontier_laws.proofs.TableSteps.{table_of_none}
+use Rattle.kept_tables.proofs.Ends.{end, of_none}
 use Rattle.frontier_laws.proofs.TurnSteps.{within_none}
 use Rattle.frontier_sweep.specs.Frontiers.{Frontier, IsFirst, IsFrontier, IsLimitAfter}
 use Rattle.frontier_sweep.specs.Rises.{IsRises, HasRises}
@@ -37,10 +36,6 @@ pub record IsContractedTo (answers : View → ℕ → Type 0) (m delta : ℕ) (n
   pub whole : length order ≡ done
   pub is : IsFrontier m delta network order frontier count
 
--- The table of no node.
-table_by_none : (m delta : ℕ) → IsTableBy m delta [] [] ((0, 1) ∷ [])
-table_by_none m delta = let h = table_of_none m delta in record { distinct = h.distinct; codes = h.codes; sums = h.sums }
-
 one_below : (m : ℕ) → 1 < m → All (λ (entry : ℕ × ℕ). entry.1 < m) ((0, 1) ∷ [])
 one_below m some = All-cons (λ (entry : ℕ × ℕ). entry.1 < m) (0, 1) [] some (All-nil (λ (entry : ℕ × ℕ). entry.1 < m))
 
@@ -58,7 +53,7 @@ first answers m delta network frontier some is = record {
     rises_are = subst (λ names. IsRises network frontier.left names frontier.rises) (sym is.names_are) (is.rises_are frontier.left);
     groups_are = is.groups_are;
     places_open = subst (AreOpen []) (sym is.places_are) record { once = λ x. refl };
-    table_by = subst (λ places. IsTableBy m delta [] places frontier.table) (sym is.places_are) (subst (IsTableBy m delta [] []) (sym is.table_is) (table_by_none m delta));
+    table_by = subst (λ places. IsTableBy m delta [] places frontier.table) (sym is.places_are) (subst (IsTableBy m delta [] []) (sym is.table_is) (of_none m delta));
     below = subst (All (λ entry. entry.1 < m)) (sym is.table_is) (one_below m some);
     count_is = refl;
     few_turns = omega arith;

@@ -1,5 +1,5 @@
 -- What holds in the loops of a step that makes a table anew, pass by pass: the table is that of the terms glued so far, and has at most 262,144 entries.
-use Rattle.std.proofs.Common.{◌≡◌, ℕ, suc, ◌+◌, ◌*◌, ◌<◌, ◌≤◌, ◌%◌, ◌==◌, false, List, [], ◌∷◌, ◌++◌, map, take, drop, length, get_or, Some, sym, ap, subst, ◌∙◌, arith}
+use Rattle.std.proofs.Common.{◌≡◌, ℕ, suc, ◌+◌, ◌*◌, ◌<◌, ◌≤◌, ◌%◌, ◌==◌, false, List, [], ◌∷◌, ◌++◌, map, take, drop, length, get_or, Some, sym, ap, subst, ◌∙◌, append-nil, arith}
 use Rattle.std.specs.List.{All}
 use Rattle.std.specs.Map.{keys_of}
 use Rattle.std.specs.Option.{unwrap_or}
@@ -12,7 +12,6 @@ use Rattle.arc_pairing.specs.Gluing.{Seam}
 use Rattle.frontier_laws.specs.Tables.{add_in, add_all, glued_item, contribution, contributions}
 use Rattle.frontier_laws.proofs.Tables.{add_in-residue, add_in-below, add_all-push, add_all-append, add_all-below}
 use Rattle.frontier_laws.proofs.TableLengths.{longer_behind, longer_by_one}
-use Rattle.frontier_laws.proofs.TableLimits.{added_all_at}
 use Rattle.frontier_sweep.specs.LoopPowers.{LoopPowers}
 
 -- The first so many terms are glued to the pairing.
@@ -62,6 +61,14 @@ module _ (powers : LoopPowers) (seam : Seam) (partner : List ℕ) (coefficient :
       let all = ap (λ items. length (add_all powers.modulus old items)) split in
       omega (arith, full, more, long, all)
 
+-- What the first so many entries give, one more.
+contributions_more : (delta : ℕ) (seam : Seam) (terms : List Term) (table : List (ℕ × ℕ)) (i : ℕ) → i < length table →
+    contributions delta seam terms (take (i + 1) table) ≡ contributions delta seam terms (take i table) ++ map (contribution delta seam (get_or table i (0, 0))) terms
+contributions_more delta seam terms table i within =
+    let one : ℕ × ℕ → List (ℕ × ℕ) = λ entry. map (contribution delta seam entry) terms in
+    let entry = get_or table i (0, 0) in
+    ap (contributions delta seam terms) (take_more table i (0, 0) within) ∙ flat_map-append one (take i table) (entry ∷ []) ∙ ap (λ last. contributions delta seam terms (take i table) ++ last) (append-nil (one entry))
+
 -- The terms are glued to the first so many entries.
 pub record IsGluedToAll (powers : LoopPowers) (seam : Seam) (terms : List Term) (table : List (ℕ × ℕ)) (count done : ℕ) (next : List (ℕ × ℕ)) (turns : ℕ) : Type 0 where
   pub table_is : next ≡ add_all powers.modulus [] (contributions powers.delta seam terms (take done table))
@@ -81,7 +88,7 @@ module _ (powers : LoopPowers) (seam : Seam) (terms : List Term) (table next : L
         ∙ ap (λ so_far. add_all powers.modulus so_far (map (contribution powers.delta seam entry) terms)) h.table_is
         ∙ sym (add_all-append powers.modulus [] (contributions powers.delta seam terms (take i table)) (map (contribution powers.delta seam entry) terms))
         ∙ ap (λ last. add_all powers.modulus [] (contributions powers.delta seam terms (take i table) ++ map (contribution powers.delta seam last) terms)) read
-        ∙ added_all_at powers.modulus powers.delta seam terms table i (0, 0) within;
+        ∙ ap (add_all powers.modulus []) (sym (contributions_more powers.delta seam terms table i within));
     below = subst (All (λ entry. entry.1 < powers.modulus)) (sym after_is) (add_all-below powers.modulus (map (contribution powers.delta seam entry) terms) next some h.below);
     count_is = (let e = h.count_is in let n = length terms in let d : (i + 1) * n ≡ i * n + n = omega arith in omega (arith, e, d));
   }
@@ -92,7 +99,7 @@ module _ (powers : LoopPowers) (seam : Seam) (terms : List Term) (table next : L
       let one : ℕ × ℕ → List (ℕ × ℕ) = λ entry. map (contribution powers.delta seam entry) terms in
       let so_far = contributions powers.delta seam terms (take i table) in
       let here = ap length (ap (λ before. add_all powers.modulus before (one entry)) h.table_is ∙ sym (add_all-append powers.modulus [] so_far (one entry))
-      ∙ ap (λ last. add_all powers.modulus [] (so_far ++ one last)) read ∙ added_all_at powers.modulus powers.delta seam terms table i (0, 0) within) in
+      ∙ ap (λ last. add_all powers.modulus [] (so_far ++ one last)) read ∙ ap (add_all powers.modulus []) (sym (contributions_more powers.delta seam terms table i within))) in
       let split = ap (λ entries. add_all powers.modulus [] (contributions powers.delta seam terms entries)) (sym (take-append-drop (i + 1) table))
       ∙ ap (add_all powers.modulus []) (flat_map-append one (take (i + 1) table) (drop (i + 1) table)) in
       let more = longer_behind powers.modulus [] (contributions powers.delta seam terms (take (i + 1) table)) (contributions powers.delta seam terms (drop (i + 1) table)) in

@@ -5,42 +5,29 @@ use Rattle.std.specs.List.{All}
 use Rattle.std.specs.Map.{keys_of}
 use Rattle.std.specs.Set.{is_member}
 use Rattle.std.proofs.lemmas.Bool.Decides.{nat_tests}
-use Rattle.std.proofs.lemmas.List.Elements.{All-append, All-cons, All-nil, All-map, All-weaker}
+use Rattle.std.proofs.lemmas.List.Elements.{All-append, All-cons, All-nil}
 use Rattle.std.proofs.lemmas.Map.Entries.{length-keys_of}
 use Rattle.graph_parts.proofs.Ends.{is_member-get_or}
-use Rattle.state_sums.specs.Networks.{Node, Term, IsNode, names_of}
-use Rattle.state_sums.specs.StateSums.{states, state_edges}
+use Rattle.state_sums.specs.Networks.{Node, IsNode, names_of}
 use Rattle.arc_gluing.specs.Laws.{AreFew}
-use Rattle.arc_gluing.specs.Pairings.{AreOpen, IsPairedBy, partners_of}
-use Rattle.arc_gluing.proofs.GluingLaws.{paired_states}
+use Rattle.arc_gluing.specs.Pairings.{AreOpen}
 use Rattle.arc_pairing.specs.Codes.{code_of}
 use Rattle.arc_pairing.specs.Gluing.{Seam}
 use Rattle.arc_pairing.specs.Pairings.{IsShortPairing}
 use Rattle.frontier_laws.specs.Tables.{decoded, contributions}
 use Rattle.frontier_laws.specs.Turns.{pairing_count}
 use Rattle.frontier_laws.proofs.Decoded.{decoded-code_of}
-use Rattle.frontier_laws.proofs.TableEnds.{found, keys-at}
+use Rattle.frontier_laws.proofs.ListTests.{found}
+use Rattle.frontier_laws.proofs.Tables.{keys-at}
 use Rattle.kept_seams.specs.AnyOrder.{pairings_by}
 use Rattle.kept_tables.specs.KeptTables.{IsTableBy, IsGathered, seam_by}
 use Rattle.kept_tables.proofs.Ends.{count}
+use Rattle.kept_tables.proofs.OpenPairings.{IsOfPoints, of_points}
 use Rattle.kept_tables.proofs.Steps.{step}
 use Rattle.frontier_sweep.specs.Steps.{Spells, IsSeamOf, IsOverfull}
 
--- A pairing of so many points.
-record IsOfPoints (points : ℕ) (partner : List ℕ) : Type 0 where
-  short : IsShortPairing partner
-  whole : length partner ≡ points
-
 module _ (m delta : ℕ) (nodes : List Node) (names : List ℕ) (table : List (ℕ × ℕ)) (ok : All IsNode nodes) (few : AreFew nodes) (open_are : AreOpen (names_of nodes) names) (narrow : length names ≤ 24)
     (h : IsTableBy m delta nodes names table) where
-  all_of_points : All (IsOfPoints (length names)) (pairings_by nodes names)
-  all_of_points =
-      let partner_of : List Term → List ℕ = λ state. partners_of (names_of nodes) (state_edges nodes state) names in
-      All-map (IsOfPoints (length names)) partner_of (states nodes)
-      (All-weaker (λ state. IsPairedBy (state_edges nodes state) names (partner_of state)) (λ state. IsOfPoints (length names) (partner_of state))
-      (λ state paired. record { short = record { short = (let w = paired.whole in omega (arith, w, narrow)); paired = paired.is_pairing }; whole = paired.whole })
-      (states nodes) (paired_states nodes names ok few open_are))
-
   -- EACH CODE SPELLS A PAIRING OF THE OPEN NAMES
   pub spelled : (i : ℕ) → i < length table → Spells (length names) (get_or table i (0, 0)).0
   spelled i within =
@@ -48,7 +35,7 @@ module _ (m delta : ℕ) (nodes : List Node) (names : List ℕ) (table : List (�
       let k = length-keys_of table in
       let member : is_member ◌==◌ (keys_of table) code ≡ true =
       sym (ap (is_member ◌==◌ (keys_of table)) (keys-at table i (0, 0) within)) ∙ is_member-get_or (keys_of table) i (omega (arith, within, k)) in
-      let s = found (IsOfPoints (length names)) (λ partner. code == code_of partner) (pairings_by nodes names) all_of_points (sym (h.codes code) ∙ member) in
+      let s = found (IsOfPoints (length names)) (λ partner. code == code_of partner) (pairings_by nodes names) (of_points nodes names ok few open_are narrow) (sym (h.codes code) ∙ member) in
       let test = s.2 in
       let is : code ≡ code_of s.0 = grind (arith, nat_tests, test) in
       let read : decoded code ≡ s.0 = ap decoded is ∙ decoded-code_of s.0 s.1.short in

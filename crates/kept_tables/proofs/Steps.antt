@@ -3,7 +3,6 @@ use Rattle.std.proofs.Common.{◌≡◌, ℕ, ◌*◌, ◌^◌, ◌%◌, ◌≤�
 use Rattle.std.specs.List.{All, flat_map, list_any}
 use Rattle.std.specs.Map.{keys_of}
 use Rattle.std.specs.Set.{is_member}
-use Rattle.std.proofs.lemmas.List.Elements.{All-map, All-weaker}
 use Rattle.std.proofs.lemmas.List.Folds.{flat_map-map}
 use Rattle.graph_parts.specs.Patterns.{closed_parts}
 use Rattle.graph_parts.proofs.Renaming.{map_map}
@@ -25,6 +24,7 @@ use Rattle.frontier_laws.proofs.NextPairings.{glued_partner, states_after}
 use Rattle.frontier_laws.proofs.TableSums.{contributions-sum}
 use Rattle.kept_seams.specs.AnyOrder.{pairings_by}
 use Rattle.kept_tables.specs.KeptTables.{IsTableBy, IsGathered, StepLaw, seam_by}
+use Rattle.kept_tables.proofs.OpenPairings.{all_short}
 
 -- The codes of the contributions: each code of the table, glued with each term.
 contributions-codes : (delta : ℕ) (seam : Seam) (terms : List Term) (table : List (ℕ × ℕ)) →
@@ -38,13 +38,8 @@ contributions-codes delta seam terms (entry ∷ table) =
 
 module _ (nodes : List Node) (node : Node) (inner outer : List ℕ) (ok : All IsNode nodes) (node_ok : IsNode node) (few : AreFew (nodes ++ node ∷ [])) (narrow : length inner ≤ 24)
     (open_in : AreOpen (names_of nodes) inner) (open_out : AreOpen (names_of (nodes ++ node ∷ [])) outer) where
-  all_short : All IsShortPairing (pairings_by nodes inner)
-  all_short =
-      let partner_of : List Term → List ℕ = λ state. partners_of (names_of nodes) (state_edges nodes state) inner in
-      All-map IsShortPairing partner_of (states nodes)
-      (All-weaker (λ state. IsPairedBy (state_edges nodes state) inner (partner_of state)) (λ state. IsShortPairing (partner_of state))
-      (λ state paired. record { short = (let w = paired.whole in omega (arith, w, narrow)); paired = paired.is_pairing })
-      (states nodes) (paired_states nodes inner ok (AreFew-front nodes (node ∷ []) few) open_in))
+  short_before : All IsShortPairing (pairings_by nodes inner)
+  short_before = all_short nodes inner ok (AreFew-front nodes (node ∷ []) few) open_in narrow
 
   pairings_after : pairings_by (nodes ++ node ∷ []) outer ≡ flat_map (λ partner. map (glued_partner (seam_by inner node outer) partner) node.terms) (pairings_by nodes inner)
   pairings_after =
@@ -68,7 +63,7 @@ module _ (nodes : List Node) (node : Node) (inner outer : List ℕ) (ok : All Is
       let seam = seam_by inner node outer in
       any_all IsShortPairing
       (λ partner. list_any (λ term. code == code_of (glued_partner seam (decoded (code_of partner)) term)) node.terms)
-      (λ partner. list_any (λ found. code == code_of found) (map (glued_partner seam partner) node.terms)) (pairings_by nodes inner) all_short
+      (λ partner. list_any (λ found. code == code_of found) (map (glued_partner seam partner) node.terms)) (pairings_by nodes inner) short_before
       (λ partner h.
       ap (λ p. list_any (λ term. code == code_of (glued_partner seam p term)) node.terms) (decoded-code_of partner h)
       ∙ sym (any-map (λ found. code == code_of found) (glued_partner seam partner) node.terms))

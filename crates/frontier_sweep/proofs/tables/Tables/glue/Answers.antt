@@ -15,7 +15,6 @@ on_ok : {T E : Type 0} {A B : Type 0} (result : Result T E) → (A → B) → On
 on_ok (Ok x) law a = law a
 on_ok (Err e) law a = a
 
-
 pub returns-in_ok-glue_table-in-None-clause-gathered : goal.returns-in_ok-glue_table-in-None-clause-gathered
 returns-in_ok-glue_table-in-None-clause-gathered c =
     let step = c.args.step in
