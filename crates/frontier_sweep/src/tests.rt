@@ -335,23 +335,29 @@ fn last_left(view: &View) -> u32
     left[left.len() - 1]
 }
 
+/// What the last node left each time gives, and the three orders by closures.
+fn swept_by_closures(alloc: Global, network: &Network) -> Option<[Answer; 4]> {
+    Some([
+        swept(alloc, network, Kept(|view: &View| last_left(view)))?,
+        listed_by_closure(alloc, network)?,
+        greedy_by_closure(alloc, network)?,
+        given_by_closure(alloc, network, &[1, 3])?,
+    ])
+}
+
 #[test]
 fn closures(rt: HostRuntime) -> Result<(), Fail> {
     let network = network(rt.alloc(), FIGURE_EIGHT).ok_or("no network")?;
-    let inner = Some((Ok(2), 14));
-    let last = swept(rt.alloc(), &network, Kept(|view: &View| last_left(view)));
-    assert_eq!(rt; last, inner);
-    assert_eq!(rt; listed_by_closure(rt.alloc(), &network), inner);
-    assert_eq!(rt; greedy_by_closure(rt.alloc(), &network), inner);
-    let outer_first = given_by_closure(rt.alloc(), &network, &[1, 3]);
-    assert_eq!(rt; outer_first, Some((Ok(2), 18)));
+    let inner = (Ok(2), 14);
+    let answers = swept_by_closures(rt.alloc(), &network);
+    assert_eq!(rt; answers, Some([inner, inner, inner, (Ok(2), 18)]));
     let both = swept_in_threads(
         &rt,
         rt.alloc(),
         &network,
         Kept(|view: &View| greedy_next(view)),
     );
-    assert_eq!(rt; both, (inner, inner));
+    assert_eq!(rt; both, (Some(inner), Some(inner)));
     Ok(())
 }
 
@@ -424,28 +430,53 @@ fn drawn_network(alloc: Global, draws: &mut Draws) -> Option<Network> {
     Network::new(alloc, nodes, draws.below(3) as u32).ok()
 }
 
+/// A closed braid of three strands with eight crossings; its last node joins the tops to the bottoms.
+fn drawn_braid(alloc: Global, draws: &mut Draws) -> Option<Network> {
+    let mut open = [0u32, 1, 2];
+    let mut nodes = Vec::new(alloc);
+    for number in 0..8u32 {
+        let left = draws.below(2) as usize;
+        let (below_left, below_right) = (open[left], open[left + 1]);
+        let (above_left, above_right) = (3 + 2 * number, 4 + 2 * number);
+        let ends = if draws.below(2) == 0 {
+            [below_right, above_right, above_left, below_left]
+        } else {
+            [below_left, below_right, above_right, above_left]
+        };
+        nodes.push(node(alloc, number, &ends, CROSSING)?).ok()?;
+        open[left] = above_left;
+        open[left + 1] = above_right;
+    }
+    let ends = [0, 1, 2, open[0], open[1], open[2]];
+    nodes
+        .push(node(alloc, 8, &ends, &[(1, &[3, 4, 5, 0, 1, 2])])?)
+        .ok()?;
+    Network::new(alloc, nodes, 0).ok()
+}
+
 /// Whether the three orders, and the last node left each time, give the sum over all states.
-fn agrees_with_states(alloc: Global, draws: &mut Draws) -> Option<bool> {
-    let network = drawn_network(alloc, draws)?;
+fn agrees_with_states(alloc: Global, network: &Network) -> Option<bool> {
     let params = Params::new(41, 2, 5).ok()?;
-    if !weights_below(&network, params.ring().modulus()) {
+    if !weights_below(network, params.ring().modulus()) {
         return None;
     }
-    let sum = plain_sum(alloc, params.ring(), params.loop_value(), &network).ok()?;
-    let answers = swept_thrice(alloc, &network, &[3, 1])?;
-    let last = swept(alloc, &network, Kept(|view: &View| last_left(view)))?;
+    let sum = plain_sum(alloc, params.ring(), params.loop_value(), network).ok()?;
+    let answers = swept_thrice(alloc, network, &[3, 1])?;
+    let last = swept(alloc, network, Kept(|view: &View| last_left(view)))?;
     Some(last.0 == Ok(sum) && answers.iter().all(|answer| answer.0 == Ok(sum)))
 }
 
+// At most crossings of a braid two ends are glued and the names keep their places; elsewhere the table is made anew.
 #[test]
 fn drawn_networks(rt: HostRuntime) -> Result<(), Fail> {
     let mut draws = Draws { state: 1 };
     for number in 0..100 {
-        assert_eq!(rt;
-            agrees_with_states(rt.alloc(), &mut draws),
-            Some(true),
-            "network {number}"
-        );
+        let network = drawn_network(rt.alloc(), &mut draws).ok_or("no network")?;
+        let agrees = agrees_with_states(rt.alloc(), &network);
+        assert_eq!(rt; agrees, Some(true), "network {number}");
+        let braid = drawn_braid(rt.alloc(), &mut draws).ok_or("no braid")?;
+        let agrees = agrees_with_states(rt.alloc(), &braid);
+        assert_eq!(rt; agrees, Some(true), "braid {number}");
     }
     Ok(())
 }
