@@ -1,5 +1,5 @@
 #!/usr/bin/env python3
-"""Measures what the gate costs: runs `rt ci` at the top of the repository and writes docs/gate.md.
+"""Measures what the gate costs: runs `rt ci --anew` at the top of the repository and writes docs/gate.md.
 
 Each second the processor time of every prover in this run's session is read from /proc, by its crate and by what it does: the
 crate's proof, the proof of its tests, or a must-fail edit. A prover's last second may be missed. Run it from the top of a clean
@@ -62,7 +62,7 @@ def read_crates():
 def main():
     seen, began = {}, time.time()
     with open("gate.log", "w") as log:
-        gate = subprocess.Popen(["rt", "ci"], stdout=log, stderr=subprocess.STDOUT, start_new_session=True)
+        gate = subprocess.Popen(["rt", "ci", "--anew"], stdout=log, stderr=subprocess.STDOUT, start_new_session=True)
         while gate.poll() is None:
             sample(seen, gate.pid)
             time.sleep(1)
