@@ -5,6 +5,7 @@ use Rattle.ring_identities.proofs.PowerLemmas.{power-pos}
 use Rattle.ring_identities.specs.Powers.{power}
 use Rattle.ring_identities.specs.Residues.{residue}
 use Rattle.std.proofs.Math.ListN.{set}
+use Rattle.std.proofs.Math.Nat.{pow-zero}
 use Rattle.std.proofs.lemmas.Bool.Decides.{nat_tests}
 use Rattle.std.proofs.lemmas.Nat.{mul-mod_second}
 
@@ -26,6 +27,14 @@ scaled_products m coefficient weight step inner outer k power_is inner_is outer_
     ∙ residue_of_product m coefficient inner
     ∙ ap (λ inner. coefficient * inner % m) (inner_is ∙ residue_of_product m weight step ∙ ap (λ step. weight * step % m) power_is ∙ mul-mod_second weight k m)
     ∙ mul-mod_second coefficient (weight * k) m
+
+-- With no loop the power is 1, and one product is enough.
+pub scaled_once : (m coefficient weight delta outer : ℕ) → outer ≡ residue m (pos coefficient *ℤ pos weight) → outer ≡ coefficient * (weight * delta ^ 0) % m
+scaled_once m coefficient weight delta outer outer_is =
+    let one : weight * 1 ≡ weight = omega arith in
+    outer_is
+    ∙ residue_of_product m coefficient weight
+    ∙ ap (λ worth. coefficient * worth % m) (sym (ap (λ k. weight * k) (pow-zero delta) ∙ one))
 
 -- The residue of a power is the power's remainder.
 residue_of_nat : (m a : ℕ) → residue m (pos a) ≡ a % m

@@ -61,6 +61,9 @@ impl LoopPowers {
         ensures value { result ≡ coefficient * (weight * self.now.delta ^ loops) % self.now.modulus }
         ensures below { result < self.now.modulus }
     {
+        if loops == 0 {
+            return self.ring.mul(coefficient, weight);
+        }
         let power = self.powers[loops as usize];
         self.ring.mul(coefficient, self.ring.mul(weight, power))
     }
